@@ -1,0 +1,4 @@
+pub mod Checks
+pub mod Field
+pub mod Faults
+pub mod Writing
