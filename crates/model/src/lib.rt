@@ -1,0 +1,16 @@
+ghost use mathlib.Core.Path.{_≡_};
+ghost use mathlib.Core.List.{[], _∷_};
+ghost use Rattle.model.specs.Examples.{answer-of, chain, Worked-runs};
+ghost use Rattle.model.specs.Laws.{Law, Run-fits, Pace};
+ghost use Rattle.model.specs.Rate.{repeats};
+
+// f, d and m of a graph on paper; the laws of every graph stand beside it.
+pub fn laws_stand() -> (u32, u32, u32)
+    ensures value { λ r. ⌜ answer-of (chain 2 3 4) (1 ∷ 2 ∷ []) 3 ≡ repeats (r .0) (r .1) (r .2) ⌝ }
+    ensures law { λ _. ⌜ Law ⌝ }
+    ensures fits { λ _. ⌜ Run-fits ⌝ }
+    ensures pace { λ _. ⌜ Pace ⌝ }
+    ensures worked { λ _. ⌜ Worked-runs ⌝ }
+{
+    (5, 7, 1)
+}
