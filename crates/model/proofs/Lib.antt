@@ -5,4 +5,7 @@ pub mod Runs
 pub mod Sim
 pub mod Alikes
 pub mod Paces
+pub mod Schedules
+pub mod Repeating
+pub mod Standing
 pub mod Examples
