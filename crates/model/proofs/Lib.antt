@@ -8,4 +8,6 @@ pub mod Paces
 pub mod Schedules
 pub mod Repeating
 pub mod Standing
+pub mod Equations
+pub mod Rates
 pub mod Examples

@@ -9,7 +9,7 @@
 -- Rate-means  what each answer of rate says of the run
 use mathlib.Core.Path.{_≡_}
 use Prim.Native.Nat.{ℕ, _+_, _*_, _≤_, _<_}
-use lib.ListN.{length}
+use lib.ListN.{length, getD}
 use Rattle.model.specs.Net.{Net, Sound, Timed, run}
 use Rattle.model.specs.Rate.{rate-of, standstill, repeats, no-row}
 
@@ -46,6 +46,7 @@ pub record Rate-means (n : Net) (time reps : ℕ → ℕ) (room last : ℕ) : Ty
   pub standing : (f : ℕ) → rate-of n time (reps 0) room last .answer ≡ standstill f → Stands n time f
   pub ceasing : Ceases n time → (f d m : ℕ) → rate-of n time (reps 0) room last .answer ≡ repeats f d m → ⊥
   pub within : length (rate-of n time (reps 0) room last .taken) ≤ room
+  pub sampled : (i : ℕ) → i < length (rate-of n time (reps 0) room last .taken) → run n time (getD (rate-of n time (reps 0) room last .taken) i 0) .ended 0 ≡ i * reps 0
   pub full : rate-of n time (reps 0) room last .answer ≡ no-row → length (rate-of n time (reps 0) room last .taken) ≡ room
 
 abbrev pub Rate-holds : Type 0

@@ -2,6 +2,7 @@ ghost use mathlib.Core.Path.{_≡_};
 ghost use mathlib.Core.List.{[], _∷_};
 ghost use Rattle.model.specs.Examples.{answer-of, chain, Worked-runs};
 ghost use Rattle.model.specs.Laws.{Law, Run-fits, Pace};
+ghost use Rattle.model.specs.Meaning.{Rate-holds};
 ghost use Rattle.model.specs.Rate.{repeats};
 ghost use Rattle.model.specs.Schedule.{In-order, No-faster};
 
@@ -13,6 +14,7 @@ pub fn laws_stand() -> (u32, u32, u32)
     ensures order { λ _. ⌜ In-order ⌝ }
     ensures schedules { λ _. ⌜ No-faster ⌝ }
     ensures pace { λ _. ⌜ Pace ⌝ }
+    ensures rates { λ _. ⌜ Rate-holds ⌝ }
     ensures worked { λ _. ⌜ Worked-runs ⌝ }
 {
     (5, 7, 1)
