@@ -1,18 +1,15 @@
 -- States that agree start, end and go on alike. Assumes nothing.
-use mathlib.Core.Path.{_≡_, refl, ap, ap₂, _∙_}
-use mathlib.Core.Bool.{Bool, not, _&&_}
-use Prim.Native.Nat.{ℕ, zero, suc, _+_, _-_, _≤_, _<_}
+use mathlib.Core.Path.{_≡_, ap, ap₂, _∙_}
+use mathlib.Core.Bool.{not, _&&_}
+use Prim.Native.Nat.{ℕ, _+_, _-_, _<_}
 use native.Mathlib.Omega.{arith}
 use native.Mathlib.Numerals.{add-one}
 use lib.Dec.{ltb, eqb}
-use Rattle.model.specs.Net.{Net, Sound, Timed, State, when, every, busy, started, ready, start, ends, finish, tick, initial-state, fallen, next, run}
+use Rattle.model.specs.Net.{Net, Sound, State, when, started, ready, start, ends, finish, tick, initial-state, fallen, next, run}
 use Rattle.model.specs.Likeness.{Same, Alike, Matches}
 use Rattle.model.specs.Laws.{Balanced, Paced}
-use Rattle.model.proofs.Balance.{capacity-whole, run-balanced}
-
-every-same : (k : ℕ) (f g : ℕ → Bool) → ((c : ℕ) → c < k → f c ≡ g c) → every k f ≡ every k g
-every-same zero f g h = refl
-every-same (suc k) f g h = ap₂ _&&_ (h k (omega arith)) (every-same k f g (λ c lt. h c (omega arith)))
+use Rattle.model.proofs.Balance.{capacity-whole}
+use Rattle.model.proofs.Every.{every-same}
 
 pub alike-trans : (n : Net) (s z w : State) → Alike n s z → Alike n z w → Alike n s w
 alike-trans n s z w h k = record { tokens = λ c hc. h .tokens c hc ∙ k .tokens c hc; free = λ c hc. h .free c hc ∙ k .free c hc; left = λ a ha. h .left a ha ∙ k .left a ha }

@@ -1,12 +1,11 @@
 -- A shared run keeps pace. Assumes nothing.
-use mathlib.Core.Path.{_≡_}
-use Prim.Native.Nat.{ℕ, zero, suc, _+_, _≤_, _<_}
+use Prim.Native.Nat.{ℕ, suc}
 use native.Mathlib.Omega.{arith}
-use Rattle.model.specs.Net.{Net, Sound, Timed, State, fallen, initial-state, run}
-use Rattle.model.specs.Laws.{Ahead, Due, Paced, Serves, Pace}
-use Rattle.model.proofs.Balance.{initial-balanced, start-balanced, tick-balanced, run-balanced}
+use Rattle.model.specs.Net.{Net, Sound, Timed, fallen, run}
+use Rattle.model.specs.Laws.{Due, Pace}
+use Rattle.model.proofs.Balance.{tick-balanced, run-balanced}
 use Rattle.model.proofs.Runs.{run-left, ticked}
-use Rattle.model.proofs.Sim.{ahead-begin, ahead-tick, ahead-ended}
+use Rattle.model.proofs.Ahead.{ahead-begin, ahead-tick, ahead-ended}
 
 -- a run's own ticks left are due
 own : (n : Net) (time : ℕ → ℕ) → Sound n → Timed n time → (t : ℕ) → Due n time (run n time t) (run n time t .left)
@@ -15,7 +14,7 @@ own n time sound pos t = record { covers = λ a ha. omega arith; most = run-left
 pub pace : Pace
 pace = record {
   begins = λ n time promise due sound pos pos′ d. record {
-    balanced = start-balanced n sound time (initial-state n) pos (initial-balanced n);
+    balanced = run-balanced n sound time pos 0;
     behind = ahead-begin n sound time time pos pos (run n time 0 .left) (own n time sound pos 0);
     ahead = ahead-begin n sound time promise pos pos′ due d;
   };

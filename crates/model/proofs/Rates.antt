@@ -1,6 +1,6 @@
 -- What rate's outcome means of the run. Assumes nothing.
 use mathlib.Core.Path.{_≡_, refl, sym, ap, subst, _∙_}
-use mathlib.Core.Bool.{Bool, true, false, cond, _&&_}
+use mathlib.Core.Bool.{true, false, cond}
 use mathlib.Core.List.{List, [], _∷_, _++_}
 use mathlib.Core.Logic.{_⊎_, inl, inr}
 use Prim.Native.Nat.{ℕ, zero, suc, _+_, _-_, _*_, _%_, _/_, _≤_, _<_}
@@ -13,11 +13,11 @@ use Rattle.std.proofs.shelf.Tests.{cases-lt, cond-both, and-parts, and-cases, t
 use Rattle.model.specs.Net.{Net, run}
 use Rattle.model.specs.Likeness.{Same}
 use Rattle.model.specs.Rate.{Answer, standstill, repeats, no-row, late, Verdict, Outcome, same, still, sample-due, first-same, sample-says, says, led, rated, rate-of, takes-row, answers, on}
-use Rattle.model.specs.Meaning.{Accepted, Repeats, Stands, Ceases, Rate-means, Rate-holds}
+use Rattle.model.specs.Meaning.{Accepted, Repeats, Rate-means, Rate-holds}
 use Rattle.model.proofs.Runs.{run-rises, run-grows}
 use Rattle.model.proofs.Repeating.{repeating}
 use Rattle.model.proofs.Standing.{stands}
-use Rattle.model.proofs.Equations.{same-true, still-true, first-same-is}
+use Rattle.model.proofs.Verdicts.{same-true, still-true, first-same-is}
 
 -- a count that has come to a multiple has come to the next one
 hit : (rep l e e′ : ℕ) → e < l * rep → l * rep ≤ e + rep → e < e′ → e′ ≤ e + 1 → e′ % rep ≡ 0 → e′ ≡ l * rep

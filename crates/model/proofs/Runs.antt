@@ -1,15 +1,16 @@
 -- The run of a graph is legal and eager. Assumes nothing.
-use mathlib.Core.Path.{_≡_, refl, sym, subst}
+use mathlib.Core.Path.{_≡_, refl, subst}
 use mathlib.Core.Bool.{Bool, true, false}
 use mathlib.Core.Logic.{_⊎_, inl, inr}
-use Prim.Native.Nat.{ℕ, zero, suc, _+_, _-_, _*_, _≤_, _<_}
+use Prim.Native.Nat.{ℕ, zero, suc, _+_, _≤_, _<_}
 use native.Mathlib.Omega.{arith}
 use native.Mathlib.Nat.{mul-le-mul-left}
 use Rattle.std.proofs.shelf.Tests.{cases-lt}
 use Rattle.std.proofs.shelf.Ways.{tells}
 use Rattle.model.specs.Net.{Net, Sound, Timed, State, started, ready, start, finish, tick, initial-state, fallen, run}
 use Rattle.model.specs.Laws.{Balanced, Fed, Blocked, counts, Legal, Eager, Run-fits}
-use Rattle.model.proofs.Balance.{ready-false, lets-false, start-started, finish-balanced, run-balanced, initial-balanced}
+use Rattle.model.proofs.Balance.{start-started, finish-balanced, run-balanced, initial-balanced}
+use Rattle.model.proofs.Ready.{ready-false, lets-false}
 
 pub balanced-fed : (n : Net) (s : State) → Balanced n s → Fed n (started s) (s .ended)
 balanced-fed n s b = record { tokens = λ c hc. omega (arith, b .tokens c hc); places = λ c hc. omega (arith, b .free c hc) }
@@ -21,9 +22,9 @@ pub idle : (s : State) (a : ℕ) → s .left a ≡ 0 → started s a ≡ s .ende
 idle s a h = grind (arith, tells)
 
 -- once the ready have started, an actor is at work or blocked
-pub start-again : (n : Net) → Sound n → (time : ℕ → ℕ) (s : State) → Timed n time → Balanced n s → (a : ℕ) → a < n .actors →
+pub start-again : (n : Net) → Sound n → (time : ℕ → ℕ) → Timed n time → (s : State) → Balanced n s → (a : ℕ) → a < n .actors →
     let z = start n time s in (z .ended a < started z a) ⊎ Blocked n (started z) (z .ended) a
-start-again n sound time s pos b a ha = go (ready n s a) refl
+start-again n sound time pos s b a ha = go (ready n s a) refl
   where
     up : (x : ℕ) → x < n .actors → started s x ≤ started (start n time s) x
     up x hx = omega (arith, start-started n time s x (pos x hx))
@@ -75,8 +76,8 @@ module _ (n : Net) (sound : Sound n) (time : ℕ → ℕ) (pos : Timed n time) w
   first a ha = let h = pos a ha in (refl, grind (arith, tells))
 
   pub run-again : (t a : ℕ) → a < n .actors → let z = at t in (z .ended a < started z a) ⊎ Blocked n (started z) (z .ended) a
-  run-again zero = start-again n sound time (initial-state n) pos (initial-balanced n)
-  run-again (suc t) = start-again n sound time (finish n (fallen (at t)) (at t)) pos
+  run-again zero = start-again n sound time pos (initial-state n) (initial-balanced n)
+  run-again (suc t) = start-again n sound time pos (finish n (fallen (at t)) (at t))
       (finish-balanced n sound (fallen (at t)) (at t) (λ a ha. omega arith) (run-balanced n sound time pos t))
 
   -- a tick ends one firing of an actor at most

@@ -2,13 +2,14 @@
 use mathlib.Core.Path.{_≡_, refl, subst, _∙_}
 use mathlib.Core.Bool.{false}
 use mathlib.Core.Logic.{_⊎_, inl, inr}
-use Prim.Native.Nat.{ℕ, zero, suc, _+_, _-_, _*_, _≤_, _<_}
+use Prim.Native.Nat.{ℕ, zero, suc, _≤_, _<_}
 use native.Mathlib.Omega.{arith}
 use Rattle.std.proofs.shelf.Tests.{cases-lt, cases-bool}
 use Rattle.model.specs.Net.{Net, Sound, Timed, State, started, ready, finish, next, fallen, run}
 use Rattle.model.specs.Laws.{Balanced, Blocked}
 use Rattle.model.specs.Meaning.{Stands}
-use Rattle.model.proofs.Balance.{ready-true, lets-true, finish-started, finish-balanced, run-balanced}
+use Rattle.model.proofs.Balance.{finish-started, finish-balanced, run-balanced}
+use Rattle.model.proofs.Ready.{ready-true, lets-true}
 use Rattle.model.proofs.Runs.{idle, run-again}
 
 module _ (n : Net) (sound : Sound n) where

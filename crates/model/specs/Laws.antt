@@ -15,8 +15,8 @@
 -- Serves     what a policy's serve does to ticks left and due
 -- Pace       the pace is kept by each tick, and keeps the counts between those of the two runs
 use mathlib.Core.Path.{_≡_}
-use mathlib.Core.Logic.{_⊎_, inl, inr}
-use Prim.Native.Nat.{ℕ, zero, suc, _+_, _-_, _*_, _≤_, _<_}
+use mathlib.Core.Logic.{_⊎_}
+use Prim.Native.Nat.{ℕ, suc, _+_, _-_, _*_, _≤_, _<_}
 use Rattle.model.specs.Net.{Net, Sound, Timed, State, initial-state, start, tick, run, started}
 
 pub record Fed (n : Net) (started ended : ℕ → ℕ) : Type 0 where

@@ -18,9 +18,8 @@
 -- fallen         ticks left, one less each
 -- next           the tick of a run
 -- run            the state after the starts of each tick
-use mathlib.Core.Path.{_≡_}
 use mathlib.Core.Bool.{Bool, true, false, cond, not, _&&_, _||_}
-use Prim.Native.Nat.{ℕ, zero, suc, _+_, _-_, _*_, _≤_, _<_}
+use Prim.Native.Nat.{ℕ, zero, suc, _+_, _-_, _≤_, _<_}
 use lib.Dec.{leb, ltb, eqb}
 
 -- Actors and channels are numbered from 0. A firing of source c adds p c tokens to channel c, and one of dest c takes q c from it.

@@ -12,7 +12,7 @@
 -- led          where a verdict leads
 -- rated        the outcome from a tick on, with so many more ticks to the last one
 -- rate-of      the outcome from tick 0 on
-use mathlib.Core.Bool.{Bool, true, false, cond, not, _&&_}
+use mathlib.Core.Bool.{Bool, true, cond, not, _&&_}
 use mathlib.Core.List.{List, [], _∷_, _++_}
 use Prim.Native.Nat.{ℕ, zero, suc, _-_, _%_}
 use lib.Dec.{eqb, ltb}

@@ -1,13 +1,13 @@
 -- One run stays ahead of another, tick by tick. Assumes nothing.
-use mathlib.Core.Path.{_≡_, refl, sym, ap, subst, _∙_}
+use mathlib.Core.Path.{_≡_}
 use mathlib.Core.Logic.{_⊎_, inl, inr}
-use Prim.Native.Nat.{ℕ, zero, suc, _+_, _-_, _*_, _≤_, _<_}
+use Prim.Native.Nat.{ℕ, _+_, _≤_, _<_}
 use native.Mathlib.Omega.{arith}
 use Rattle.std.proofs.shelf.Tests.{cases-lt}
 use Rattle.std.proofs.shelf.Ways.{tells}
 use Rattle.model.specs.Net.{Net, Sound, Timed, State, started, start, finish, tick, initial-state}
-use Rattle.model.specs.Laws.{Balanced, Fed, Blocked, Ahead, Due}
-use Rattle.model.proofs.Balance.{start-balanced, finish-balanced, initial-balanced}
+use Rattle.model.specs.Laws.{Balanced, Ahead, Due}
+use Rattle.model.proofs.Balance.{start-balanced, finish-balanced}
 use Rattle.model.proofs.Law.{starts}
 use Rattle.model.proofs.Runs.{balanced-fed, single, idle, start-again, Ticked, ticked}
 
@@ -56,9 +56,9 @@ module _ (n : Net) (sound : Sound n) (timef timeg : ℕ → ℕ) (posf : Timed n
       Ahead n f due g → Ahead n (tick n timef lf f) due′ (tick n timeg lg g)
   ahead-tick f g lf lg due due′ bf bg falls-f falls-g slow nearer new h a ha =
       step-starts (due a) (due′ a) (xf a ha) (xg a ha) (h a ha) (slow a ha) (nearer a ha) (new .covers a ha)
-      (starts n (started f2) (f2 .ended) (started g2) (g2 .ended) sound (balanced-fed n g2 (start-balanced n sound timeg _ posg (finish-balanced n sound lg g falls-g bg)))
+      (starts n (started f2) (f2 .ended) (started g2) (g2 .ended) sound (balanced-fed n g2 (start-balanced n sound timeg posg _ (finish-balanced n sound lg g falls-g bg)))
       (λ b hb. step-ends (due b) (due′ b) (xf b hb) (xg b hb) (h b hb) (slow b hb) (nearer b hb) (new .covers b hb))
-      a ha (single g2 a) (start-again n sound timef (finish n lf f) posf (finish-balanced n sound lf f falls-f bf) a ha))
+      a ha (single g2 a) (start-again n sound timef posf (finish n lf f) (finish-balanced n sound lf f falls-f bf) a ha))
       (new .most a ha) (new .none a ha)
     where
       f2 : State

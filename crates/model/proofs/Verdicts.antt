@@ -1,20 +1,19 @@
--- The verdict of each tick, and how the outcome of rate steps from tick to tick. Assumes nothing.
-use mathlib.Core.Path.{_≡_, refl, sym, ap, subst, _∙_}
+-- The verdict of rate at each tick, by what stands there. Assumes nothing.
+use mathlib.Core.Path.{_≡_, refl, ap, _∙_}
 use mathlib.Core.Bool.{Bool, true, false, cond, not, _&&_}
-use mathlib.Core.List.{List, [], _∷_, _++_}
+use mathlib.Core.List.{List, [], _∷_}
 use mathlib.Core.Logic.{inl, inr}
 use Prim.Native.Nat.{ℕ, zero, suc, _+_, _-_, _%_, _≤_, _<_}
 use native.Mathlib.Omega.{arith}
 use native.Mathlib.Numerals.{add-one}
 use lib.Dec.{eqb, ltb}
 use lib.ListN.{length, getD}
-use Rattle.std.proofs.shelf.Tests.{cases-bool, cond-true, cond-false, and-parts, and-from, both-ways, eqb-true, eq-eqb, ltb-false, lt-ltb, le-ltb, not-true}
+use Rattle.std.proofs.shelf.Tests.{cases-bool, cond-true, cond-false, and-parts, and-from, eqb-true, eq-eqb, ltb-false, lt-ltb, le-ltb, not-true}
 use Rattle.std.proofs.shelf.Ways.{tells}
 use Rattle.model.specs.Net.{Net, State, every, busy, run}
 use Rattle.model.specs.Likeness.{Same}
-use Rattle.model.specs.Rate.{Answer, standstill, repeats, no-row, late, Verdict, on, takes-row, answers, Outcome, same, still, sample-due, first-same, sample-says, says, led, rated}
-use Rattle.model.proofs.Balance.{every-true}
-use Rattle.model.proofs.Tests.{every-from, every-stop}
+use Rattle.model.specs.Rate.{standstill, repeats, no-row, on, takes-row, answers, same, still, sample-due, first-same, sample-says, says}
+use Rattle.model.proofs.Every.{every-true, every-from, every-stop}
 
 pub same-true : (n : Net) (s z : State) → same n s z ≡ true → Same n s z
 same-true n s z h =
@@ -95,38 +94,6 @@ module _ (n : Net) (time : ℕ → ℕ) (rep room t : ℕ) (taken : List ℕ) wh
 
       pub says-no-row : room ≤ length taken → says n time rep room t taken ≡ answers no-row
       says-no-row full = says-new ∙ cond-false _ _ _ (le-ltb _ _ full)
-
-  pub rated-on : (more : ℕ) → says n time rep room t taken ≡ on → rated n time rep room (suc more) t taken ≡ rated n time rep room more (suc t) taken
-  unfolding rated
-  rated-on more h = ap (λ v. led v t taken (λ rows. rated n time rep room more (suc t) rows)) h
-
-  pub rated-takes-row : (more : ℕ) → says n time rep room t taken ≡ takes-row → rated n time rep room (suc more) t taken ≡ rated n time rep room more (suc t) (taken ++ t ∷ [])
-  unfolding rated
-  rated-takes-row more h = ap (λ v. led v t taken (λ rows. rated n time rep room more (suc t) rows)) h
-
-  pub rated-answers : (more : ℕ) (x : Answer) → says n time rep room t taken ≡ answers x → rated n time rep room more t taken ≡ record { answer = x; taken = taken }
-  unfolding rated
-  rated-answers zero x h = ap (λ v. led v t taken (λ rows. record { answer = late; taken = rows })) h
-  rated-answers (suc more) x h = ap (λ v. led v t taken (λ rows. rated n time rep room more (suc t) rows)) h
-
-  pub rated-last : says n time rep room t taken ≡ on → rated n time rep room 0 t taken ≡ record { answer = late; taken = taken }
-  unfolding rated
-  rated-last h = ap (λ v. led v t taken (λ rows. record { answer = late; taken = rows })) h
-
-  pub rated-last-row : says n time rep room t taken ≡ takes-row → rated n time rep room 0 t taken ≡ record { answer = late; taken = taken ++ t ∷ [] }
-  unfolding rated
-  rated-last-row h = ap (λ v. led v t taken (λ rows. record { answer = late; taken = rows })) h
-
-  -- the same, of a loop that counts ticks up to the last
-  module _ (last : ℕ) (lt : t < last) where
-    one-less : last - t ≡ suc (last - (t + 1))
-    one-less = omega arith
-
-    pub step-on : says n time rep room t taken ≡ on → rated n time rep room (last - t) t taken ≡ rated n time rep room (last - (t + 1)) (t + 1) taken
-    step-on h = rw (one-less, add-one) (rated-on _ h)
-
-    pub step-takes-row : says n time rep room t taken ≡ takes-row → rated n time rep room (last - t) t taken ≡ rated n time rep room (last - (t + 1)) (t + 1) (taken ++ t ∷ [])
-    step-takes-row h = rw (one-less, add-one) (rated-takes-row _ h)
 
 -- a sample is due where actor 0's count has come to a multiple
 pub due-later : (n : Net) (time : ℕ → ℕ) (rep t : ℕ) →
