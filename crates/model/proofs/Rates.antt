@@ -164,30 +164,25 @@ module _ (n : Net) (time reps : ℕ → ℕ) (ok : Accepted n time reps) (room :
   unfolding rate-of
   outcome-means last = means last 0 [] (record { within = omega arith; earlier = λ i lt. absurd (omega arith); sampled = λ i lt. absurd (omega arith); upto = refl })
 
-  means-repeating : (o : Outcome) → Means o → (f d m : ℕ) → o .answer ≡ repeats f d m → Repeats n time reps f d m
-  means-repeating o h f d m e =
-      let k : Found f d m = subst (λ x. Says x (o .taken)) e (h .said) in
-      repeating n time reps ok f d (k .same) m (k .gained) (k .later) (k .some)
-
-  pub rate-means : (last : ℕ) → Rate-means n time reps room last
-  rate-means last = record {
+  rate-means : (o : Outcome) → Means o → Rate-means n time reps room o
+  rate-means o h = record {
     repeating = repeats-on;
-    standing = λ f e. stands n (ok .sound) time (ok .timed) f (still-true n (run n time f) (subst (λ x. Says x (rate-of n time rep room last .taken)) e (h .said)));
+    standing = λ f e. stands n (ok .sound) time (ok .timed) f (still-true n (run n time f) (told (standstill f) e));
     ceasing = λ (t, none) f d m e. let (u, more) = repeats-on f d m e .endless 0 (count t + 1) (ok .some) (ok .counted) in
         elim (cases-lt u t) [
           | inl early ↦ omega (arith, run-grows n (ok .sound) time (ok .timed) u t 0 (ok .some) (omega arith))
           | inr from ↦ omega (arith, none u 0 from (ok .some))
         ];
+    full = told no-row;
     within = h .within;
     sampled = h .sampled;
-    full = λ e. subst (λ x. Says x (rate-of n time rep room last .taken)) e (h .said);
   }
     where
-      h : Means (rate-of n time rep room last)
-      h = outcome-means last
+      told : (x : Answer) → o .answer ≡ x → Says x (o .taken)
+      told x e = subst (λ y. Says y (o .taken)) e (h .said)
 
-      repeats-on : (f d m : ℕ) → rate-of n time rep room last .answer ≡ repeats f d m → Repeats n time reps f d m
-      repeats-on = means-repeating (rate-of n time rep room last) h
+      repeats-on : (f d m : ℕ) → o .answer ≡ repeats f d m → Repeats n time reps f d m
+      repeats-on f d m e = let k = told (repeats f d m) e in repeating n time reps ok f d (k .same) m (k .gained) (k .later) (k .some)
 
 pub rate-holds : Rate-holds
-rate-holds n time reps room last ok = rate-means n time reps ok room last
+rate-holds n time reps ok room last = rate-means n time reps ok room (rate-of n time (reps 0) room last) (outcome-means n time reps ok room last)

@@ -5,8 +5,8 @@
 -- Balanced   tokens and free places are what the firings started and ended make of them
 -- Behaviour  how many firings of each actor have started and ended by each tick
 -- counts     the behaviour of states by tick
--- Legal      it keeps to tokens and places, and its firings take so long or longer
--- Eager      it starts whenever it can, and its firings take so long or less
+-- Legal      it keeps to tokens and places, one firing of an actor at a time, each so long or longer
+-- Eager      it starts whenever it can, and each firing takes so long or less
 -- Law        no legal behaviour is ahead of an eager one
 -- Run-fits   the run of a graph is both legal and eager
 -- Ahead      one state has started more, or as much and has no more ticks to go

@@ -6,12 +6,13 @@
 -- Repeats     from tick f on, any d ticks see m times the repetition counts, and so for ever
 -- Stands      from tick f on nothing is under way, and nothing starts or ends
 -- Ceases      from some tick on no count rises
--- Rate-means  what each answer of rate says of the run
+-- Rate-means  what each answer says of the run, and each row taken
+-- Rate-holds  rate's outcome means that, of every accepted graph
 use mathlib.Core.Path.{_≡_}
 use Prim.Native.Nat.{ℕ, _+_, _*_, _≤_, _<_}
 use lib.ListN.{length, getD}
 use Rattle.model.specs.Net.{Net, Sound, Timed, run}
-use Rattle.model.specs.Rate.{rate-of, standstill, repeats, no-row}
+use Rattle.model.specs.Rate.{Outcome, standstill, repeats, no-row, rate-of}
 
 pub data Joined (n : Net) : ℕ → Type 0 where
   first : Joined n 0
@@ -41,13 +42,13 @@ Stands n time f = (t a : ℕ) → f ≤ t → a < n .actors → (run n time t .l
 abbrev pub Ceases : Net → (ℕ → ℕ) → Type 0
 Ceases n time = (f : ℕ) × ((t a : ℕ) → f ≤ t → a < n .actors → run n time t .ended a ≡ run n time f .ended a)
 
-pub record Rate-means (n : Net) (time reps : ℕ → ℕ) (room last : ℕ) : Type 0 where
-  pub repeating : (f d m : ℕ) → rate-of n time (reps 0) room last .answer ≡ repeats f d m → Repeats n time reps f d m
-  pub standing : (f : ℕ) → rate-of n time (reps 0) room last .answer ≡ standstill f → Stands n time f
-  pub ceasing : Ceases n time → (f d m : ℕ) → rate-of n time (reps 0) room last .answer ≡ repeats f d m → ⊥
-  pub within : length (rate-of n time (reps 0) room last .taken) ≤ room
-  pub sampled : (i : ℕ) → i < length (rate-of n time (reps 0) room last .taken) → run n time (getD (rate-of n time (reps 0) room last .taken) i 0) .ended 0 ≡ i * reps 0
-  pub full : rate-of n time (reps 0) room last .answer ≡ no-row → length (rate-of n time (reps 0) room last .taken) ≡ room
+pub record Rate-means (n : Net) (time reps : ℕ → ℕ) (room : ℕ) (o : Outcome) : Type 0 where
+  pub repeating : (f d m : ℕ) → o .answer ≡ repeats f d m → Repeats n time reps f d m
+  pub standing : (f : ℕ) → o .answer ≡ standstill f → Stands n time f
+  pub ceasing : Ceases n time → (f d m : ℕ) → o .answer ≡ repeats f d m → ⊥
+  pub full : o .answer ≡ no-row → length (o .taken) ≡ room
+  pub within : length (o .taken) ≤ room
+  pub sampled : (i : ℕ) → i < length (o .taken) → run n time (getD (o .taken) i 0) .ended 0 ≡ i * reps 0
 
 abbrev pub Rate-holds : Type 0
-Rate-holds = (n : Net) (time reps : ℕ → ℕ) (room last : ℕ) → Accepted n time reps → Rate-means n time reps room last
+Rate-holds = (n : Net) (time reps : ℕ → ℕ) → Accepted n time reps → (room last : ℕ) → Rate-means n time reps room (rate-of n time (reps 0) room last)
