@@ -140,20 +140,28 @@ module _ (n : Net) (time reps : ℕ → ℕ) (ok : Accepted n time reps) (room :
       Means (led (says n time rep room t taken) t taken go)
   unfolding says
   step t taken h go means =
-      cond-both (still n (run n time t)) (answers (standstill t)) (cond (sample-due n time rep t) (sample-says n time room t taken) on) ends (answered t taken h (standstill t))
-      (λ _. cond-both (sample-due n time rep t) (sample-says n time room t taken) on ends
-      (λ d. cond-both (ltb r (length taken)) (answers (repeats (getD taken r 0) (t - getD taken r 0) (length taken - r))) (cond (ltb (length taken) room) takes-row (answers no-row)) ends
-      (λ lt. answered t taken h (repeats (getD taken r 0) (t - getD taken r 0) (length taken - r)) (found t taken h d r (ltb-true _ _ lt) (first-same-is n time t taken (ltb-true _ _ lt))))
-      (λ _. cond-both (ltb (length taken) room) takes-row (answers no-row) ends
-      (λ spare. means (taken ++ t ∷ []) (rows-more t taken h d (ltb-true _ _ spare)))
-      (λ full. answered t taken h no-row (omega (arith, h .within, ltb-false _ _ full)))))
-      (λ off. means taken (rows-stay t taken h off)))
+      cond-both (still n (run n time t)) (answers (standstill t)) (cond (sample-due n time rep t) (sample-says n time room t taken) on) ends
+      (answered t taken h (standstill t))
+      (λ _. cond-both (sample-due n time rep t) (sample-says n time room t taken) on ends sample (λ off. means taken (rows-stay t taken h off)))
     where
       r : ℕ
       r = first-same n time t taken
 
+      again : Answer
+      again = repeats (getD taken r 0) (t - getD taken r 0) (length taken - r)
+
       ends : Verdict → Type 0
       ends v = Means (led v t taken go)
+
+      new : sample-due n time rep t ≡ true → ends (cond (ltb (length taken) room) takes-row (answers no-row))
+      new d = cond-both (ltb (length taken) room) takes-row (answers no-row) ends
+          (λ spare. means (taken ++ t ∷ []) (rows-more t taken h d (ltb-true _ _ spare)))
+          (λ full. answered t taken h no-row (omega (arith, h .within, ltb-false _ _ full)))
+
+      sample : sample-due n time rep t ≡ true → ends (sample-says n time room t taken)
+      sample d = cond-both (ltb r (length taken)) (answers again) (cond (ltb (length taken) room) takes-row (answers no-row)) ends
+          (λ lt. answered t taken h again (found t taken h d r (ltb-true _ _ lt) (first-same-is n time t taken (ltb-true _ _ lt))))
+          (λ _. new d)
 
   means : (more t : ℕ) (taken : List ℕ) → Rows t taken → Means (rated n time rep room more t taken)
   unfolding rated

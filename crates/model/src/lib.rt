@@ -6,7 +6,7 @@ ghost use Rattle.model.specs.Meaning.{Rate-holds};
 ghost use Rattle.model.specs.Rate.{repeats};
 ghost use Rattle.model.specs.Schedule.{In-order, No-faster};
 
-// f, d and m of a graph on paper; the laws of every graph stand beside it.
+// f, d and m of a graph worked on paper; the contract carries the laws of every graph.
 pub fn laws_stand() -> (u32, u32, u32)
     ensures value { λ r. ⌜ answer-of (chain 2 3 4) (1 ∷ 2 ∷ []) 3 ≡ repeats (r .0) (r .1) (r .2) ⌝ }
     ensures law { λ _. ⌜ Law ⌝ }
