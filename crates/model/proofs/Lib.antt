@@ -1,0 +1,15 @@
+pub mod Every
+pub mod Ready
+pub mod Balance
+pub mod Law
+pub mod Runs
+pub mod Ahead
+pub mod Alikes
+pub mod Paces
+pub mod Schedules
+pub mod Repeating
+pub mod Standing
+pub mod Verdicts
+pub mod Steps
+pub mod Rates
+pub mod Examples
