@@ -1,0 +1,49 @@
+ghost use mathlib.Core.Path.{_≡_};
+ghost use Rattle.report.specs.declared.fault.Fault.the-variants.{Graph};
+ghost use Rattle.report.specs.Lines.{layerOf, numberOf, placeOf};
+
+// Why a file is refused: a fault of the layer that found it, whole.
+#[derive(Clone, Copy)]
+pub enum Fault {
+    Graph(graph::Fault),
+}
+
+pub impl From<graph::Fault> for Fault as FaultFromGraph {
+    ghost converts = { λ e r. r ≡ Graph e };
+
+    fn from(e: graph::Fault) -> Fault {
+        Fault::Graph(e)
+    }
+}
+
+impl Fault {
+    // The layer that found the fault.
+    pub fn layer(self) -> &'static str
+        ensures { λ r. ⌜ now r ≡ layerOf self ⌝ }
+    {
+        match self {
+            Fault::Graph(graph::Fault::Fields(e)) => e.layer(),
+            Fault::Graph(e) => e.layer(),
+        }
+    }
+
+    // The number of the refusal.
+    pub fn number(self) -> u8
+        ensures { λ r. ⌜ r ≡ numberOf self ⌝ }
+    {
+        match self {
+            Fault::Graph(graph::Fault::Fields(e)) => e.number(),
+            Fault::Graph(e) => e.number(),
+        }
+    }
+
+    // The field or the actor concerned, or 0.
+    pub fn place(self) -> u8
+        ensures { λ r. ⌜ r ≡ placeOf self ⌝ }
+    {
+        match self {
+            Fault::Graph(graph::Fault::Fields(e)) => e.place(),
+            Fault::Graph(e) => e.place(),
+        }
+    }
+}
