@@ -26,6 +26,13 @@ fn value<'a>(kind: Kind, bytes: &'a [u8]) -> Option<(Field<'a>, &'a [u8])>
     }
 }
 
+// The number in two bytes, high byte first.
+fn number_of(high: u8, low: u8) -> usize
+    ensures { λ r. ⌜ r ≡ high * 256 + low ⌝ }
+{
+    high as usize * 256 + low as usize
+}
+
 // Reads the field of the kind that is due, the one of that number, and gives it with the bytes after it.
 pub fn read<'a>(bytes: &'a [u8], kind: Kind, number: u8) -> Result<(Field<'a>, &'a [u8]), Fault>
     ensures { λ r. ⌜ ReadIs (now (bytes .entry)) kind number r ⌝ }
@@ -35,7 +42,7 @@ pub fn read<'a>(bytes: &'a [u8], kind: Kind, number: u8) -> Result<(Field<'a>, &
             if *tag != kind.tag() {
                 return Err(Fault::Tag(number));
             }
-            if *high as usize * 256 + *low as usize != kind.size() {
+            if number_of(*high, *low) != kind.size() {
                 return Err(Fault::Length(number));
             }
             match value(kind, rest) {

@@ -1,11 +1,12 @@
 ghost use mathlib.Core.Path.{_≡_};
-ghost use mathlib.Core.List.{_++_};
+ghost use mathlib.Core.List.{[], _++_};
 ghost use Prim.Native.Nat.{ℕ, _+_, _*_, _<_, _≤_};
 ghost use lib.ListN.{length, getD, take, drop};
-ghost use Rattle.fields.specs.Field.{sizeOf, kindOf, bytesOf, written};
+ghost use Rattle.fields.specs.Field.{sizeOf, kindOf, bytesOf, framed, written};
 ghost use Rattle.fields.specs.Writing.{Placed, PutIs};
 use crate::fault::Fault;
 use crate::field::Field;
+use crate::field::Kind;
 
 // Puts bytes at a place of the buffer that has room for them.
 fn put(out: &mut [u8], at: usize, bytes: &[u8])
@@ -13,6 +14,13 @@ fn put(out: &mut [u8], at: usize, bytes: &[u8])
     ensures { λ _. ⌜ Placed at (now (bytes .entry)) (now (out .entry)) (now (out .exit)) ⌝ }
 {
     out[at..at + bytes.len()].copy_from_slice(bytes);
+}
+
+// The bytes before a value: the tag, and the length with its high byte first.
+fn frame(kind: Kind) -> [u8; 3]
+    ensures { λ r. ⌜ r ≡ framed kind [] ⌝ }
+{
+    [kind.tag(), 0, kind.size() as u8]
 }
 
 impl<'a> Field<'a> {
@@ -37,7 +45,7 @@ impl<'a> Field<'a> {
         if at > out.len() || out.len() - at < 3 + kind.size() {
             return Err(Fault::Small);
         }
-        put(out, at, &[kind.tag(), 0, kind.size() as u8]);
+        put(out, at, &frame(kind));
         put(out, at + 3, value);
         Ok(at + 3 + value.len())
     }

@@ -3,7 +3,7 @@
 use mathlib.Core.Path.{_≡_}
 use mathlib.Core.List.{List, [], _∷_, _++_, map}
 use mathlib.Core.Bool.{true}
-use Prim.Native.Nat.{ℕ, _+_, _-_}
+use Prim.Native.Nat.{ℕ, _+_, _-_, _<_}
 use lib.ListN.{length, getD, take, drop, replicate}
 use denote.Ref.{RefT}
 use Rattle.std.specs.Joined.{joined}
@@ -13,7 +13,9 @@ use Rattle.graph.specs.Channels.{blank}
 use Rattle.graph.specs.declared.channel.Channel.{Channel}
 use Rattle.graph.specs.declared.actor.Actor.{Actor}
 use Rattle.graph.specs.declared.actor.NameRow.{NameRow}
+use Rattle.fields.specs.declared.fault.Fault.the-variants.{More}
 use Rattle.graph.specs.declared.fault.Fault.{Fault}
+use Rattle.graph.specs.declared.fault.Fault.the-variants.{Fields}
 use Rattle.graph.specs.declared.reading.Parts.{Parts}
 use Rattle.graph.specs.Rules.{headed, nobody, vacant, GoodAfter, GoodActor, GoodChannel, GoodActors, GoodChannels, Each}
 use Rattle.graph.specs.File.{headBytes, headOf, actorValue, actorBytes, actorOf, channelValue, channelBytes, channelOf, actorAfter, channelAt, oneActor, oneChannel, manyOf, written, fileOf}
@@ -57,6 +59,11 @@ ActorsIs xs n (Err f) = manyOf oneActor 1 xs n ≡ Err f
 abbrev pub ChannelsIs : ℕ → List ℕ → ℕ → Result (List Channel × RefT (List ℕ)) Fault → Type 0
 ChannelsIs actors xs n (Ok r) = Filled blank blank 32 channelBytes (GoodChannel actors) xs (r .0) n (r .1 .now)
 ChannelsIs actors xs n (Err f) = manyOf (oneChannel actors) (1 + actors) xs n ≡ Err f
+
+-- nothing follows the last field, or the field after it would
+abbrev pub NoMoreIs : List ℕ → ℕ → ℕ → Result (Unit {0}) Fault → Type 0
+NoMoreIs xs n m (Ok u) = length xs ≡ 0
+NoMoreIs xs n m (Err e) = (0 < length xs) × (e ≡ Fields (More (1 + n + m)))
 
 -- actors and channels that a file states, each good, and the file as written
 pub record Stated (xs : List ℕ) (parts : Parts) : Type 0 where

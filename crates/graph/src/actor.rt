@@ -16,13 +16,20 @@ pub struct NameRow {
     pub field: u8,
 }
 
+// Whether two names are the same, byte for byte.
+fn same_bytes(a: &[u8], b: &[u8]) -> bool
+    ensures { λ r. ⌜ r ≡ sameBytes (now (a .entry)) (now (b .entry)) ⌝ }
+{
+    a == b
+}
+
 pub impl Record for NameRow as NameRowRecord {
     ghost alike = { λ a b. sameBytes (a .name) (b .name) };
 
     ghost stamped = { λ a. a .field };
 
     fn same(&self, other: &NameRow) -> bool {
-        &self.name[..] == &other.name[..]
+        same_bytes(&self.name, &other.name)
     }
 
     fn stamp(&self) -> u32 {

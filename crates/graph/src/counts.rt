@@ -1,6 +1,6 @@
 // Repetition counts: the least that balance every channel.
 ghost use mathlib.Core.Path.{_≡_};
-ghost use Prim.Native.Nat.{ℕ, _<_, _≤_};
+ghost use Prim.Native.Nat.{ℕ, _+_, _<_, _≤_};
 ghost use lib.ListN.{length, getD, set};
 ghost use Rattle.graph.specs.Channels.{Every, Ends};
 ghost use Rattle.graph.specs.Counts.{LagsIs, Ones, CountsIs};
@@ -39,6 +39,14 @@ fn ones(actors: usize) -> [u16; 16]
     n
 }
 
+// The next higher count.
+fn raised(count: u16) -> u16
+    requires { ⌜ count < 4096 ⌝ }
+    ensures { λ r. ⌜ r ≡ count + 1 ⌝ }
+{
+    count + 1
+}
+
 // The least counts, of 1 to 4096, that balance every channel, if there are any. A count that lags is too low in every
 // solution, so it is raised by one until none lags.
 pub fn counts(actors: usize, channels: &[Channel]) -> Option<[u16; 16]>
@@ -51,7 +59,7 @@ pub fn counts(actors: usize, channels: &[Channel]) -> Option<[u16; 16]>
         if n[a] >= 4096 {
             return None;
         }
-        n[a] += 1;
+        n[a] = raised(n[a]);
     }
     Some(n)
 }

@@ -4,7 +4,7 @@ ghost use mathlib.Core.List.{_++_};
 ghost use Prim.Native.Nat.{ℕ, _+_, _*_, _<_, _≤_};
 ghost use lib.ListN.{length, getD, take, drop};
 ghost use Rattle.graph.specs.Rules.{goes, named, repeated, timed, ended, limited, headed};
-ghost use Rattle.graph.specs.Answers.{HeadIs, HeadValueIs, ActorValueIs, ChannelValueIs, ActorIs, ChannelIs, ActorsIs, ChannelsIs, PartsIs, kept};
+ghost use Rattle.graph.specs.Answers.{HeadIs, HeadValueIs, ActorValueIs, ChannelValueIs, ActorIs, ChannelIs, ActorsIs, ChannelsIs, NoMoreIs, PartsIs, kept};
 use crate::actor::Actor;
 use crate::actor::NameRow;
 use crate::actor::NameRowRecord;
@@ -237,6 +237,16 @@ fn channels<'a>(actors: u8, bytes: &'a [u8], count: u8) -> Result<([Channel; 32]
     Ok((list, rest))
 }
 
+// Refuses bytes after the last of the fields.
+fn no_more(bytes: &[u8], actors: u8, channels: u8) -> Result<(), Fault>
+    requires few { ⌜ actors ≤ 16 ⌝ }
+    requires fit { ⌜ channels ≤ 32 ⌝ }
+    ensures { λ r. ⌜ NoMoreIs (now (bytes .entry)) actors channels r ⌝ }
+{
+    fields::end(bytes, 1 + actors + channels)?;
+    Ok(())
+}
+
 // Reads head, actors, channels and the end.
 pub fn read_parts(bytes: &[u8]) -> Result<Parts, Fault>
     ensures { λ r. ⌜ PartsIs (now (bytes .entry)) r ⌝ }
@@ -244,7 +254,7 @@ pub fn read_parts(bytes: &[u8]) -> Result<Parts, Fault>
     let (n, m, rest) = head(bytes)?;
     let (actors, rest) = actors(rest, n)?;
     let (channels, rest) = channels(n, rest, m)?;
-    fields::end(rest, 1 + n + m)?;
+    no_more(rest, n, m)?;
     Ok(Parts {
         actors,
         n: n as usize,

@@ -14,6 +14,6 @@ returns-in-Some c =
     let framed : 3 ≤ length xs = search needs in (
       v .0,
       v .1,
-      rebuilt xs _ (c .args .kind) framed (c .if-tag .left ∙ c .tag .ensures) (c .if-high-low .left ∙ c .size .ensures) low
+      rebuilt xs _ (c .args .kind) framed (c .if-tag .left ∙ c .tag .ensures) (sym (c .number-of .ensures) ∙ (c .if-number-of-size .left ∙ c .size .ensures)) low
           (sym (take-rest xs 3) ∙ v .2),
     )

@@ -22,11 +22,11 @@ returns-in-Break-channels c =
     (past-head (c .args .bytes .now) n m _ (h .0) (h .1)
     ∙ (past-actors n m _ _ _ (f .as-written) (f .good) many ∙ rw (c .in-Break-channels .ensures tt) refl))
 
-pub returns-in-Break-end : need.returns-in-Break-end
-returns-in-Break-end c =
-    let p = err-from-errBy (c .from-residual-in-Break-end .result) (c .from-residual-in-Break-end .ensures .1) in
+pub returns-in-Break-no-more : need.returns-in-Break-no-more
+returns-in-Break-no-more c =
+    let p = err-from-errBy (c .from-residual-in-Break-no-more .result) (c .from-residual-in-Break-no-more .ensures .1) in
     let h = c .in-Continue-n .ensures tt in
-    let e = c .in-Break-end .ensures tt in
+    let e = c .in-Break-no-more .ensures tt in
     let some : eqb (length (c .in-Continue-channels .rest .now)) 0 ≡ false = grind (arith, tells, e .0) in
     rw (p .1, p .2, e .1)
     (past-all (c .args .bytes .now) (c .in-Continue-n .n) (c .in-Continue-n .m) _ _ _ _ _ (h .1) (h .0) (c .in-Continue-actors .ensures tt) (c .in-Continue-channels .ensures tt)
@@ -36,4 +36,4 @@ pub returns : need.returns
 returns c =
     let h = c .in-Continue-n .ensures tt in
     all-stated (c .args .bytes .now) (c .in-Continue-n .n) (c .in-Continue-n .m) _ _ _ _ _ (h .1) (h .0) (c .in-Continue-actors .ensures tt) (c .in-Continue-channels .ensures tt)
-    (c .in-Continue-end .ensures tt)
+    (c .in-Continue-no-more .ensures tt)
