@@ -6,6 +6,7 @@
 --   Joined           being in each of those
 --   has, Marks       a table of marks as a set; one that has exactly the joined actors
 --   BorderIs         the answer of the search for one more
+--   UnmarkedIs       the answer of the search for an actor without a mark
 use mathlib.Core.Path.{_≡_}
 use mathlib.Core.List.{List}
 use mathlib.Core.Bool.{Bool, true, false}
@@ -52,3 +53,7 @@ abbrev pub BorderIs : List Channel → List Bool → Option ℕ → Type 0
 BorderIs cs marks (Some a) =
     (a < length marks) × (has marks a ≡ false) × (((b : ℕ) → has marks b ≡ true → Way cs b) → Way cs a)
 BorderIs cs marks None = Closed cs (has marks)
+
+abbrev pub UnmarkedIs : ℕ → List Bool → Option ℕ → Type 0
+UnmarkedIs n marks (Some a) = (a < n) × (has marks a ≡ false) × ((b : ℕ) → b < a → has marks b ≡ true)
+UnmarkedIs n marks None = (b : ℕ) → b < n → has marks b ≡ true

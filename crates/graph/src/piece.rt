@@ -3,7 +3,7 @@ ghost use mathlib.Core.Path.{_≡_};
 ghost use Prim.Native.Nat.{ℕ, _<_, _≤_};
 ghost use lib.ListN.{length, getD, set};
 ghost use Rattle.graph.specs.Channels.{Every, Ends};
-ghost use Rattle.graph.specs.Piece.{BorderIs, Marks, ApartIs};
+ghost use Rattle.graph.specs.Piece.{BorderIs, Marks, UnmarkedIs, ApartIs};
 use crate::channel::Channel;
 
 // The unmarked end of the first channel that has one end marked, if there is one.
@@ -38,6 +38,19 @@ fn joined(channels: &[Channel]) -> [bool; 16]
     marks
 }
 
+// The lowest of so many actors that has no mark, if there is one.
+fn unmarked(marks: &[bool; 16], actors: usize) -> Option<usize>
+    requires { ⌜ actors ≤ 16 ⌝ }
+    ensures { λ o. ⌜ UnmarkedIs actors (now (marks .entry)) o ⌝ }
+{
+    for a in 0..actors {
+        if !marks[a] {
+            return Some(a);
+        }
+    }
+    None
+}
+
 // The lowest of the actors that channels do not join to actor 0, if there is one.
 pub fn apart(actors: usize, channels: &[Channel]) -> Option<usize>
     requires few { ⌜ actors ≤ 16 ⌝ }
@@ -45,10 +58,5 @@ pub fn apart(actors: usize, channels: &[Channel]) -> Option<usize>
     ensures { λ o. ⌜ ApartIs actors (now (channels .entry)) o ⌝ }
 {
     let marks = joined(channels);
-    for a in 0..actors {
-        if !marks[a] {
-            return Some(a);
-        }
-    }
-    None
+    unmarked(&marks, actors)
 }
