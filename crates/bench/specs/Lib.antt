@@ -1,0 +1,3 @@
+pub mod Firings
+pub mod Seen
+pub mod Loops
