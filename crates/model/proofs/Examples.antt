@@ -28,9 +28,9 @@ counts = record {
     times (suc zero) ha = omega arith
     times (suc (suc a)) ha = absurd (omega arith)
 
-    joins : (a : ℕ) → a < 2 → Joined (chain 2 3 4) a
-    joins zero ha = first
-    joins (suc zero) ha = along 0 (omega arith) first
+    joins : (a : ℕ) → a < 2 → ∥ Joined (chain 2 3 4) a ∥₁
+    joins zero ha = ∣ first ∣₁
+    joins (suc zero) ha = ∣ along 0 (omega arith) first ∣₁
     joins (suc (suc a)) ha = absurd (omega arith)
 
 pub worked-runs : Worked-runs

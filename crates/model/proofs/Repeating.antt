@@ -1,8 +1,9 @@
 -- A state that comes again does so for ever. Assumes nothing.
 use mathlib.Core.Path.{_≡_, sym, ap, subst}
+use mathlib.Core.Logic.{∥∥₁-elim}
 use Prim.Native.Nat.{ℕ, zero, suc, _+_, _-_, _*_, _≤_, _<_}
 use native.Mathlib.Omega.{arith}
-use native.Mathlib.Nat.{eq-of-mul-eq-mul-left, mul-pos}
+use native.Mathlib.Nat.{ℕ-set, eq-of-mul-eq-mul-left, mul-pos}
 use Rattle.model.specs.Net.{Net, State, when, busy, fallen, run}
 use Rattle.model.specs.Likeness.{Same, Alike}
 use Rattle.model.specs.Laws.{Balanced}
@@ -67,7 +68,9 @@ module _ (n : Net) (time reps : ℕ → ℕ) (ok : Accepted n time reps) (f d : 
 
     steady : (t a : ℕ) → f ≤ t → a < n .actors → at (t + d) .ended a ≡ at t .ended a + m * reps a
     unfolding Keeps
-    steady t a h ha = omega (arith, keeps (t - f) t (t + d) (omega arith) (omega arith) .1 a ha, grows a ha, shares (ok .joined a ha))
+    steady t a h ha =
+        let gained : gain a ≡ m * reps a = ∥∥₁-elim (ok .joined a ha) (ℕ-set _ _) shares in
+        omega (arith, keeps (t - f) t (t + d) (omega arith) (omega arith) .1 a ha, grows a ha)
 
     endless : (a k : ℕ) → a < n .actors → 0 < m * reps a → (t : ℕ) × (f ≤ t) × (k ≤ at t .ended a)
     endless a zero ha some = (f, omega arith, omega arith)

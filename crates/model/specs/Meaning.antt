@@ -1,6 +1,6 @@
 -- What rate's answers mean of the whole run, for ever. Assumes nothing.
 --
--- Joined      channels, taken without direction, lead from actor 0 to the actor
+-- Joined      channels, taken without direction, lead from actor 0 to the actor, by some way
 -- Balances    so many firings of each actor leave every channel's tokens as they were
 -- Accepted    a graph in one piece, with times and repetition counts
 -- Repeats     from tick f on, any d ticks see m times the repetition counts, and so for ever
@@ -26,7 +26,7 @@ pub record Accepted (n : Net) (time reps : ℕ → ℕ) : Type 0 where
   pub sound : Sound n
   pub timed : Timed n time
   pub some : 0 < n .actors
-  pub joined : (a : ℕ) → a < n .actors → Joined n a
+  pub joined : (a : ℕ) → a < n .actors → ∥ Joined n a ∥₁
   pub balances : Balances n reps
   pub counted : 0 < reps 0
 
