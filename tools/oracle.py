@@ -91,12 +91,58 @@ def counts(actors, channels):
     return whole
 
 
+LAST, ROWS = 10_000_000, 256
+
+
+def rate(channels, times, rep):
+    """Rate of the run with these times, leaping from one end of a firing to the next."""
+    n = len(times)
+    tokens = [c[5] for c in channels]
+    free = [c[4] - c[5] for c in channels]
+    left, count, rows = [0] * n, [0] * n, []
+    tick, due = 0, True
+    while True:
+        can = [left[a] == 0 for a in range(n)]
+        for c, (s, d, p, q, _, _) in enumerate(channels):
+            can[d] = can[d] and tokens[c] >= q
+            can[s] = can[s] and free[c] >= p
+        for c, (s, d, p, q, _, _) in enumerate(channels):
+            tokens[c] -= q if can[d] else 0
+            free[c] -= p if can[s] else 0
+        for a in range(n):
+            left[a] = times[a] if can[a] else left[a]
+        if not any(left):
+            return f"stop {tick}"
+        if due:
+            state = (tuple(tokens), tuple(left))
+            for r, (t, seen) in enumerate(rows):
+                if seen == state:
+                    return f"{t} {tick - t} {len(rows) - r}"
+            if len(rows) == ROWS:
+                return "none 17"
+            rows.append((tick, state))
+        leap = min(x for x in left if x)
+        if tick + leap > LAST:
+            return "none 18"
+        tick += leap
+        ends = [x == leap for x in left]
+        for a in range(n):
+            left[a] = max(left[a] - leap, 0)
+            count[a] += ends[a]
+        for c, (s, d, p, q, _, _) in enumerate(channels):
+            tokens[c] += p if ends[s] else 0
+            free[c] += q if ends[d] else 0
+        due = ends[0] and count[0] % rep == 0
+
+
 def lines(data):
     try:
         actors, channels = parse(data)
-        return ["COUNTS " + " ".join(map(str, counts(actors, channels)))]
+        rep = counts(actors, channels)[0]
     except Refused as r:
         return [r.line]
+    times = [t for _, t in actors]
+    return ["RATE " + rate(channels, times, rep)]
 
 
 def damage(data):

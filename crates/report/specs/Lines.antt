@@ -1,4 +1,10 @@
 -- What is reported of a file, and how it is printed. Assumes nothing.
+--
+-- answerOf  rate's answer as the report has it
+-- rateIn    what rate answers of a graph's unhindered run, with 256 rows
+-- ReportIs  the report on a file
+-- told      an answer as it is printed
+-- shownOf   a report as it is printed
 use mathlib.Core.List.{List, _++_}
 use mathlib.Core.Path.{_≡_}
 use Prim.Native.Nat.{ℕ}
@@ -8,35 +14,42 @@ use Rattle.std.specs.declared.option.Option.{Option}
 use Rattle.std.specs.declared.option.Option.the-variants.{Some, None}
 use Rattle.std.specs.declared.result.Result.{Result}
 use Rattle.std.specs.declared.result.Result.the-variants.{Ok, Err}
-use Rattle.graph.specs.Faults.{layerOf as layerBelow, numberOf as numberBelow, placeOf as placeBelow}
+use Rattle.model.specs.Rate.{Answer, standstill, repeats, no-row, late, rate-of}
 use Rattle.graph.specs.File.{fileOf}
 use Rattle.graph.specs.Meaning.{ReadBy}
 use Rattle.graph.specs.declared.graph.Graph.{Graph as Accepted}
+use Rattle.bench.specs.Rates.{lastTick}
+use Rattle.bench.specs.Seen.{net, timesOf, repsOf}
+use Rattle.bench.specs.declared.rate.Rate.{Rate}
+use Rattle.bench.specs.declared.rate.Rate.the-variants.{Repeats, Standstill}
+use Rattle.bench.specs.declared.fault.Fault.the-variants.{NoRow, LastTick}
+use Rattle.report.specs.Faults.{layerOf, numberOf, placeOf}
 use Rattle.report.specs.declared.fault.Fault.{Fault}
-use Rattle.report.specs.declared.fault.Fault.the-variants.{Graph}
+use Rattle.report.specs.declared.fault.Fault.the-variants.{Graph, Bench}
 use Rattle.report.specs.declared.line.Report.{Report}
-use Rattle.report.specs.declared.line.Report.the-variants.{Counts, Refused}
+use Rattle.report.specs.declared.line.Report.the-variants.{Rated, Refused}
+use Rattle.report.specs.declared.line.Told.{Told}
 
--- a fault keeps the layer, the number and the place of the layer that found it
-abbrev pub layerOf : Fault → List ℕ
-layerOf (Graph e) = layerBelow e
+abbrev pub answerOf : Answer → Result Rate Fault
+answerOf (standstill f) = Ok (Standstill f)
+answerOf (repeats f d m) = Ok (Repeats f d m)
+answerOf no-row = Err (Bench NoRow)
+answerOf late = Err (Bench LastTick)
 
-abbrev pub numberOf : Fault → ℕ
-numberOf (Graph e) = numberBelow e
+abbrev pub rateIn : Accepted → Answer
+rateIn g = rate-of (net g) (timesOf g) (repsOf g 0) 256 lastTick .answer
 
-abbrev pub placeOf : Fault → ℕ
-placeOf (Graph e) = placeBelow e
-
--- what reading the file answers
-abbrev pub CountedIs : List ℕ → Result Accepted Fault → Type 0
-CountedIs xs (Ok g) = ReadBy (fileOf xs) (Ok g)
-CountedIs xs (Err (Graph e)) = ReadBy (fileOf xs) (Err e)
-
+-- the rate of the graph that the bytes are the file of, or the refusal of the file
 abbrev pub ReportIs : List ℕ → Report → Type 0
-ReportIs xs (Counts g) = CountedIs xs (Ok g)
-ReportIs xs (Refused f) = CountedIs xs (Err f)
+ReportIs xs (Rated t) = (g : Accepted) × ReadBy (fileOf xs) (Ok g) × (t .answer ≡ answerOf (rateIn g))
+ReportIs xs (Refused (Graph e)) = ReadBy (fileOf xs) (Err e)
+ReportIs xs (Refused (Bench e)) = ⊥
 
--- the line of a refused file: FAULT, layer, number, place
-abbrev pub shownOf : Report → Option (List ℕ)
-shownOf (Counts g) = None
-shownOf (Refused f) = Some (codes "FAULT " ++ (layerOf f ++ (codes " " ++ (decimal (numberOf f) ++ (codes " " ++ decimal (placeOf f))))))
+abbrev pub told : Result Rate Fault → List ℕ
+told (Ok (Repeats f d m)) = decimal f ++ (codes " " ++ (decimal d ++ (codes " " ++ decimal m)))
+told (Ok (Standstill f)) = codes "stop " ++ decimal f
+told (Err e) = codes "none " ++ decimal (numberOf e)
+
+abbrev pub shownOf : Report → List ℕ
+shownOf (Rated t) = codes "RATE " ++ told (t .answer)
+shownOf (Refused f) = codes "FAULT " ++ (layerOf f ++ (codes " " ++ (decimal (numberOf f) ++ (codes " " ++ decimal (placeOf f)))))

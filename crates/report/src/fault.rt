@@ -1,11 +1,12 @@
 ghost use mathlib.Core.Path.{_≡_};
-ghost use Rattle.report.specs.declared.fault.Fault.the-variants.{Graph};
-ghost use Rattle.report.specs.Lines.{layerOf, numberOf, placeOf};
+ghost use Rattle.report.specs.declared.fault.Fault.the-variants.{Graph, Bench};
+ghost use Rattle.report.specs.Faults.{layerOf, numberOf, placeOf};
 
-// Why a file is refused: a fault of the layer that found it, whole.
+// Why a file is refused, or a rate is not told: a fault of the layer that found it, whole.
 #[derive(Clone, Copy)]
 pub enum Fault {
     Graph(graph::Fault),
+    Bench(bench::Fault),
 }
 
 pub impl From<graph::Fault> for Fault as FaultFromGraph {
@@ -13,6 +14,14 @@ pub impl From<graph::Fault> for Fault as FaultFromGraph {
 
     fn from(e: graph::Fault) -> Fault {
         Fault::Graph(e)
+    }
+}
+
+pub impl From<bench::Fault> for Fault as FaultFromBench {
+    ghost converts = { λ e r. r ≡ Bench e };
+
+    fn from(e: bench::Fault) -> Fault {
+        Fault::Bench(e)
     }
 }
 
@@ -24,6 +33,7 @@ impl Fault {
         match self {
             Fault::Graph(graph::Fault::Fields(e)) => e.layer(),
             Fault::Graph(e) => e.layer(),
+            Fault::Bench(e) => e.layer(),
         }
     }
 
@@ -34,6 +44,7 @@ impl Fault {
         match self {
             Fault::Graph(graph::Fault::Fields(e)) => e.number(),
             Fault::Graph(e) => e.number(),
+            Fault::Bench(e) => e.number(),
         }
     }
 
@@ -44,6 +55,7 @@ impl Fault {
         match self {
             Fault::Graph(graph::Fault::Fields(e)) => e.place(),
             Fault::Graph(e) => e.place(),
+            Fault::Bench(e) => e.place(),
         }
     }
 }

@@ -4,8 +4,12 @@ mod input;
 mod line;
 
 pub use fault::Fault;
+pub use fault::FaultFromBench;
 pub use fault::FaultFromGraph;
 pub use input::ENOUGH;
 pub use input::fill;
+pub use line::ROWS;
 pub use line::Report;
 pub use line::ReportDisplay;
+pub use line::Told;
+pub use line::ToldDisplay;

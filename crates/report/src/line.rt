@@ -1,23 +1,45 @@
 ghost use mathlib.Core.Path.{_≡_};
-ghost use Rattle.report.specs.Lines.{ReportIs, CountedIs, shownOf};
+ghost use lib.ListN.{length};
+ghost use Rattle.std.specs.declared.option.Option.the-variants.{Some};
+ghost use Rattle.report.specs.Lines.{answerOf, rateIn, ReportIs, told, shownOf};
 use crate::fault::Fault;
-use crate::fault::FaultFromGraph;
+use crate::fault::FaultFromBench;
+use bench::Rate;
+use bench::Sample;
+use bench::unhindered_rate;
 use graph::Graph;
 use std::fmt;
 
-// The lines for a file: the repetition counts of the graph, or why it is refused.
+// How many rows a run has for its samples.
+pub const ROWS: usize = 256;
+
+// What rate told of a run.
+#[derive(Clone, Copy)]
+pub struct Told {
+    pub answer: Result<Rate, Fault>,
+}
+
+// What a file comes to: the rate of its graph, or why it is refused.
 #[derive(Clone, Copy)]
 pub enum Report {
-    Counts(Graph),
+    Rated(Told),
     Refused(Fault),
 }
 
-// The graph that the bytes are the file of.
-fn counted(bytes: &[u8]) -> Result<Graph, Fault>
-    ensures { λ r. ⌜ CountedIs (now (bytes .entry)) r ⌝ }
+// Rows to lend.
+fn rows() -> [Sample; ROWS]
+    ensures { λ r. ⌜ length r ≡ 256 ⌝ }
 {
-    let graph = Graph::read(bytes)?;
-    Ok(graph)
+    [Sample::BLANK; ROWS]
+}
+
+// The rate of the unhindered run.
+fn rate(graph: &Graph) -> Result<Rate, Fault>
+    ensures { λ r. ⌜ r ≡ answerOf (rateIn (now (graph .entry))) ⌝ }
+{
+    let mut rows = rows();
+    let rate = unhindered_rate(graph, &mut rows)?;
+    Ok(rate)
 }
 
 impl Report {
@@ -25,25 +47,36 @@ impl Report {
     pub fn of(bytes: &[u8]) -> Report
         ensures { λ r. ⌜ ReportIs (now (bytes .entry)) r ⌝ }
     {
-        match counted(bytes) {
-            Ok(graph) => Report::Counts(graph),
-            Err(fault) => Report::Refused(fault),
+        match Graph::read(bytes) {
+            Ok(graph) => Report::Rated(Told {
+                answer: rate(&graph),
+            }),
+            Err(e) => Report::Refused(Fault::Graph(e)),
+        }
+    }
+}
+
+pub impl fmt::Display for Told as ToldDisplay {
+    ghost shown = { λ t. Some (told (t .answer)) };
+
+    fn fmt<W: fmt::Write>(&self, f: &mut fmt::Formatter<W>) -> fmt::Result {
+        match self.answer {
+            Ok(Rate::Repeats { f: from, d, m }) => write!(f, "{from} {d} {m}"),
+            Ok(Rate::Standstill { f: from }) => write!(f, "stop {from}"),
+            Err(fault) => {
+                let number = fault.number();
+                write!(f, "none {number}")
+            }
         }
     }
 }
 
 pub impl fmt::Display for Report as ReportDisplay {
-    ghost shown = { λ r. shownOf r };
+    ghost shown = { λ r. Some (shownOf r) };
 
     fn fmt<W: fmt::Write>(&self, f: &mut fmt::Formatter<W>) -> fmt::Result {
         match self {
-            Report::Counts(graph) => {
-                write!(f, "COUNTS")?;
-                for count in graph.counts() {
-                    write!(f, " {count}")?;
-                }
-                Ok(())
-            }
+            Report::Rated(rate) => write!(f, "RATE {rate}"),
             Report::Refused(fault) => {
                 let layer = fault.layer();
                 let number = fault.number();
