@@ -2,3 +2,4 @@ pub mod Meaning
 pub mod Faults
 pub mod Round
 pub mod Works
+pub mod Join

@@ -6,6 +6,8 @@
 --     Cleared v w       a clear
 --     layable v a       whether a lay is done
 --     Laid v w a        a lay that was done
+--     ShowsAt v a u b   u shows of actor b what v shows of actor a
+--     Alike v u         u shows what v shows
 use mathlib.Core.Path.{_≡_}
 use mathlib.Core.Bool.{Bool, _&&_}
 use Prim.Native.Nat.{ℕ, _+_, _≤_, _<_}
@@ -57,3 +59,13 @@ pub record Laid (v w : View) (a : ℕ) : Type 0 where
   pub given : w .left a ≡ v .work a
   pub others : (b : ℕ) → (b ≡ a → ⊥) → w .left b ≡ v .left b
   pub no-later : (b : ℕ) → (b ≡ a → ⊥) → w .due b ≤ v .due b
+
+pub record ShowsAt (v : View) (a : ℕ) (u : View) (b : ℕ) : Type 0 where
+  pub work : u .work b ≡ v .work a
+  pub promise : u .promise b ≡ v .promise a
+  pub left : u .left b ≡ v .left a
+  pub due : u .due b ≡ v .due a
+
+pub record Alike (v u : View) : Type 0 where
+  pub number : u .number ≡ v .number
+  pub each : (a : ℕ) → ShowsAt v a u a

@@ -1,6 +1,7 @@
 mod fault;
 mod free;
 mod meaning;
+mod pair;
 mod round;
 mod rows;
 
@@ -8,3 +9,5 @@ pub use fault::Fault;
 pub use free::Free;
 pub use free::FreePolicy;
 pub use meaning::Policy;
+pub use pair::Pair;
+pub use pair::PairPolicy;
