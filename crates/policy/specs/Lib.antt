@@ -2,4 +2,5 @@ pub mod Meaning
 pub mod Faults
 pub mod Round
 pub mod Works
+pub mod Turns
 pub mod Join

@@ -2,6 +2,7 @@ mod fault;
 mod free;
 mod meaning;
 mod pair;
+mod ring;
 mod round;
 mod rows;
 
@@ -11,3 +12,5 @@ pub use free::FreePolicy;
 pub use meaning::Policy;
 pub use pair::Pair;
 pub use pair::PairPolicy;
+pub use ring::Ring;
+pub use ring::RingPolicy;
