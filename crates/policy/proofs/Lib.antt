@@ -4,3 +4,7 @@ pub mod Sums
 pub mod Rounds
 pub mod Steps
 pub mod Rings
+pub mod Wheels
+pub mod Waits
+pub mod Slices
+pub mod Same

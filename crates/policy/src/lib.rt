@@ -5,6 +5,7 @@ mod pair;
 mod ring;
 mod round;
 mod rows;
+mod slice;
 
 pub use fault::Fault;
 pub use free::Free;
@@ -14,3 +15,5 @@ pub use pair::Pair;
 pub use pair::PairPolicy;
 pub use ring::Ring;
 pub use ring::RingPolicy;
+pub use slice::Slice;
+pub use slice::SlicePolicy;
