@@ -113,7 +113,10 @@ pub impl<P: Policy> Policy for Slice<P> as SlicePolicy {
         if self.fits(a) { self.below.work(a) } else { 0 }
     }
 
-    fn promise(&self, a: u8) -> u16 {
+    fn promise(&self, a: u8) -> u16
+        ensures value { λ r. ⌜ r ≡ sliced (P·Policy .view (now (self .entry) .below)) (now (self .entry) .period) (now (self .entry) .slots) (now (self .entry) .wheel) .promise a ⌝ }
+        ensures longest { λ r. ⌜ (wide (now (self .entry) .period) (now (self .entry) .slots) (P·Policy .view (now (self .entry) .below) .promise a) ≤ 65535 → Longest (now (self .entry) .period) (now (self .entry) .slots) (P·Policy .view (now (self .entry) .below) .promise a) r) ⌝ }
+    {
         if self.fits(a) {
             widened(self.period, self.slots, self.below.promise(a)) as u16
         } else {
@@ -125,7 +128,10 @@ pub impl<P: Policy> Policy for Slice<P> as SlicePolicy {
         if self.fits(a) { self.below.left(a) } else { 0 }
     }
 
-    fn due(&self, a: u8) -> u16 {
+    fn due(&self, a: u8) -> u16
+        ensures value { λ r. ⌜ r ≡ sliced (P·Policy .view (now (self .entry) .below)) (now (self .entry) .period) (now (self .entry) .slots) (now (self .entry) .wheel) .due a ⌝ }
+        ensures until { λ r. ⌜ (wide (now (self .entry) .period) (now (self .entry) .slots) (P·Policy .view (now (self .entry) .below) .promise a) ≤ 65535 → Until (now (self .entry) .period) (now (self .entry) .slots) (now (self .entry) .wheel) (P·Policy .view (now (self .entry) .below) .due a) r) ⌝ }
+    {
         if self.fits(a) {
             awaited(self.period, self.slots, self.wheel, self.below.due(a)) as u16
         } else {
