@@ -6,3 +6,4 @@ pub mod Turns
 pub mod Wheel
 pub mod Slices
 pub mod Join
+pub mod Worked

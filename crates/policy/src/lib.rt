@@ -6,6 +6,7 @@ mod ring;
 mod round;
 mod rows;
 mod slice;
+mod worked;
 
 pub use fault::Fault;
 pub use free::Free;
@@ -17,3 +18,4 @@ pub use ring::Ring;
 pub use ring::RingPolicy;
 pub use slice::Slice;
 pub use slice::SlicePolicy;
+pub use worked::worked_promises;
