@@ -77,12 +77,12 @@ impl Ring {
         ensures { λ r. ⌜ r ≡ round (now (self .entry) .rows .works) (now (self .entry) .rows .count) (now (self .entry) .turn) b ⌝ }
     {
         let n = self.rows.number();
-        let mut a = self.turn;
+        let mut at = self.turn;
         let mut sum = 0;
         for _step in 0..n {
-            a = after(n, a);
-            sum += self.rows.work(a);
-            if a == b {
+            at = after(n, at);
+            sum += self.rows.work(at);
+            if at == b {
                 return sum;
             }
         }

@@ -15,27 +15,27 @@ loop-step-holds c =
       omega (arith, ap (works-to (r .rows .works) (c .number-n .result) (r .turn) (c .args .b)) e),
     )
 
-pub after-a-requires : need.after-a-requires
-after-a-requires c κs = c .loop-step .inv .1 (omega arith)
+pub after-at-requires : need.after-at-requires
+after-at-requires c κs = c .loop-step .inv .1 (omega arith)
 
 pub add-sum : need.add-sum
 add-sum c =
     let r = c .args .self .now .rows in
-    omega (arith, r .most (c .after-a .result), r .few, c .work-sum .ensures, c .number-n .ensures, c .loop-step .inv .2)
+    omega (arith, r .most (c .after-at .result), r .few, c .work-sum .ensures, c .number-n .ensures, c .loop-step .inv .2)
 
-pub returns-then-a-b : need.returns-then-a-b
-returns-then-a-b c =
+pub returns-then-at-b : need.returns-then-at-b
+returns-then-at-b c =
     let r = c .args .self .now in
-    let last = works-to-last (r .rows .works) (c .number-n .result) (c .loop-step .a) (c .args .b) (c .loop-step .-step) (c .loop-step-test .taken) (c .after-a .result) (c .after-a .ensures .0) (c .if-a-b .taken) in
+    let last = works-to-last (r .rows .works) (c .number-n .result) (c .loop-step .at) (c .args .b) (c .loop-step .-step) (c .loop-step-test .taken) (c .after-at .result) (c .after-at .ensures .0) (c .if-at-b .taken) in
     omega (arith, last, c .loop-step .inv .3, c .work-sum .ensures, ap (λ n. works-to (r .rows .works) n (r .turn) (c .args .b) n) (c .number-n .ensures))
 
 pub loop-step-again : need.loop-step-again
 loop-step-again c =
     let r = c .args .self .now in
-    let passed = works-to-passed (r .rows .works) (c .number-n .result) (c .loop-step .a) (c .args .b) (c .loop-step .-step) (c .loop-step-test .taken) (c .after-a .result) (c .after-a .ensures .0) (c .if-a-b .left) in (
+    let passed = works-to-passed (r .rows .works) (c .number-n .result) (c .loop-step .at) (c .args .b) (c .loop-step .-step) (c .loop-step-test .taken) (c .after-at .result) (c .after-at .ensures .0) (c .if-at-b .left) in (
       c .number-n .ensures,
-      (λ h. c .after-a .ensures .1),
-      omega (arith, r .rows .most (c .after-a .result), c .work-sum .ensures, c .loop-step .inv .2),
+      (λ h. c .after-at .ensures .1),
+      omega (arith, r .rows .most (c .after-at .result), c .work-sum .ensures, c .loop-step .inv .2),
       omega (arith, passed, c .loop-step .inv .3, c .work-sum .ensures),
     )
 
@@ -46,6 +46,6 @@ returns c =
     omega (
       arith,
       c .loop-step .inv .3,
-      ap (works-to (r .rows .works) (c .number-n .result) (c .loop-step .a) (c .args .b)) e,
+      ap (works-to (r .rows .works) (c .number-n .result) (c .loop-step .at) (c .args .b)) e,
       ap (λ n. works-to (r .rows .works) n (r .turn) (c .args .b) n) (c .number-n .ensures),
     )
