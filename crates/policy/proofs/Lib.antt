@@ -8,3 +8,6 @@ pub mod Wheels
 pub mod Waits
 pub mod Slices
 pub mod Same
+pub mod Members
+pub mod Exacts
+pub mod Overs

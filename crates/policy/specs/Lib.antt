@@ -7,3 +7,4 @@ pub mod Wheel
 pub mod Slices
 pub mod Join
 pub mod Worked
+pub mod Like

@@ -1,3 +1,4 @@
+mod exact;
 mod fault;
 mod free;
 mod meaning;
@@ -8,6 +9,11 @@ mod rows;
 mod slice;
 mod worked;
 
+pub use exact::Exact;
+pub use exact::FreeExact;
+pub use exact::PairExact;
+pub use exact::RingExact;
+pub use exact::SliceExact;
 pub use fault::Fault;
 pub use free::Free;
 pub use free::FreePolicy;
