@@ -8,3 +8,4 @@ pub mod Slices
 pub mod Join
 pub mod Worked
 pub mod Like
+pub mod Runs

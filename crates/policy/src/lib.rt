@@ -1,3 +1,4 @@
+mod ending;
 mod exact;
 mod fault;
 mod free;
@@ -9,6 +10,7 @@ mod rows;
 mod slice;
 mod worked;
 
+pub use ending::window;
 pub use exact::Exact;
 pub use exact::FreeExact;
 pub use exact::PairExact;
