@@ -4,3 +4,4 @@ pub mod Listed
 pub mod Rowed
 pub mod Graphs
 pub mod Going
+pub mod Agrees

@@ -4,3 +4,4 @@ pub mod Loops
 pub mod Faults
 pub mod Rows
 pub mod Rates
+pub mod Agree

@@ -4,6 +4,8 @@ ghost use Rattle.bench.specs.Faults.{layerOf, numberOf, placeOf};
 // Why a run has no rate to tell.
 #[derive(Clone, Copy)]
 pub enum Fault {
+    // Works differ from times, or in number, with the lowest actor concerned.
+    Works(u8),
     // A sample has no row.
     NoRow,
     // The last tick is done.
@@ -16,6 +18,7 @@ impl Fault {
         ensures { λ r. ⌜ now r ≡ layerOf self ⌝ }
     {
         match self {
+            Fault::Works(_) => "bench",
             Fault::NoRow => "bench",
             Fault::LastTick => "bench",
         }
@@ -26,6 +29,7 @@ impl Fault {
         ensures { λ r. ⌜ r ≡ numberOf self ⌝ }
     {
         match self {
+            Fault::Works(_) => 16,
             Fault::NoRow => 17,
             Fault::LastTick => 18,
         }
@@ -36,6 +40,7 @@ impl Fault {
         ensures { λ r. ⌜ r ≡ placeOf self ⌝ }
     {
         match self {
+            Fault::Works(actor) => actor,
             Fault::NoRow => 0,
             Fault::LastTick => 0,
         }

@@ -1,7 +1,9 @@
 // Runs of a graph tick by tick, and the rate that they come to.
+mod agree;
 mod fault;
 mod firing;
 mod loops;
+mod promised;
 mod rate;
 mod run;
 mod sample;
@@ -9,6 +11,8 @@ mod sampling;
 mod steps;
 
 pub use fault::Fault;
+pub use agree::check_works;
+pub use promised::promised_rate;
 pub use rate::LAST_TICK;
 pub use rate::Rate;
 pub use rate::unhindered_rate;

@@ -140,7 +140,7 @@ fn rate_over(
 }
 
 // The rate of a graph's run with a table of times.
-fn rate_with(graph: &Graph, times: &[u16; 16], rows: &mut [Sample]) -> Result<Rate, Fault>
+pub fn rate_with(graph: &Graph, times: &[u16; 16], rows: &mut [Sample]) -> Result<Rate, Fault>
     requires { ⌜ Timed (net (now graph)) (at (now times)) ⌝ }
     ensures { λ r. ⌜ Rated (net (now (graph .entry))) (at (now (times .entry))) (repsOf (now (graph .entry)) 0) (now (rows .entry)) (now (rows .exit)) r ⌝ }
 {
