@@ -135,6 +135,15 @@ def rate(channels, times, rep):
         due = ends[0] and count[0] % rep == 0
 
 
+def held(channels, times, rep):
+    """The run that a slice of 2 in 5 over a ring of all promises."""
+    whole = sum(times)
+    promise = whole + 3 * -(-whole // 2)
+    if promise > 65535:
+        return "none 15"
+    return rate(channels, [promise] * len(times), rep)
+
+
 def lines(data):
     try:
         actors, channels = parse(data)
@@ -142,19 +151,18 @@ def lines(data):
     except Refused as r:
         return [r.line]
     times = [t for _, t in actors]
-    return ["RATE " + rate(channels, times, rep)]
+    return ["RATE " + rate(channels, times, rep), "HELD " + held(channels, times, rep)]
 
 
 def damage(data):
     for cut in range(len(data)):
-        for line in lines(data[:cut]):
-            print(f"cut {cut}: {line}")
+        print(f"cut {cut}: " + "\n".join(lines(data[:cut])))
     for at in range(len(data)):
         said, start = None, 0
         for value in range(257):
             new = None
             if value < 256:
-                new = " / ".join(lines(data[:at] + bytes([value]) + data[at + 1:]))
+                new = "\n".join(lines(data[:at] + bytes([value]) + data[at + 1:]))
             if value and new != said:
                 print(f"byte {at}, {start} to {value - 1}: {said}")
                 start = value

@@ -15,6 +15,7 @@ pub use agree::check_works;
 pub use promised::promised_rate;
 pub use rate::LAST_TICK;
 pub use rate::Rate;
+pub use rate::times;
 pub use rate::unhindered_rate;
 pub use sample::Sample;
 pub use sample::SampleRecord;

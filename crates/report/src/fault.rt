@@ -1,11 +1,12 @@
 ghost use mathlib.Core.Path.{_≡_};
-ghost use Rattle.report.specs.declared.fault.Fault.the-variants.{Graph, Bench};
+ghost use Rattle.report.specs.declared.fault.Fault.the-variants.{Graph, Policy, Bench};
 ghost use Rattle.report.specs.Faults.{layerOf, numberOf, placeOf};
 
 // Why a file is refused, or a rate is not told: a fault of the layer that found it, whole.
 #[derive(Clone, Copy)]
 pub enum Fault {
     Graph(graph::Fault),
+    Policy(policy::Fault),
     Bench(bench::Fault),
 }
 
@@ -14,6 +15,14 @@ pub impl From<graph::Fault> for Fault as FaultFromGraph {
 
     fn from(e: graph::Fault) -> Fault {
         Fault::Graph(e)
+    }
+}
+
+pub impl From<policy::Fault> for Fault as FaultFromPolicy {
+    ghost converts = { λ e r. r ≡ Policy e };
+
+    fn from(e: policy::Fault) -> Fault {
+        Fault::Policy(e)
     }
 }
 
@@ -33,6 +42,7 @@ impl Fault {
         match self {
             Fault::Graph(graph::Fault::Fields(e)) => e.layer(),
             Fault::Graph(e) => e.layer(),
+            Fault::Policy(e) => e.layer(),
             Fault::Bench(e) => e.layer(),
         }
     }
@@ -44,6 +54,7 @@ impl Fault {
         match self {
             Fault::Graph(graph::Fault::Fields(e)) => e.number(),
             Fault::Graph(e) => e.number(),
+            Fault::Policy(e) => e.number(),
             Fault::Bench(e) => e.number(),
         }
     }
@@ -55,6 +66,7 @@ impl Fault {
         match self {
             Fault::Graph(graph::Fault::Fields(e)) => e.place(),
             Fault::Graph(e) => e.place(),
+            Fault::Policy(e) => e.place(),
             Fault::Bench(e) => e.place(),
         }
     }

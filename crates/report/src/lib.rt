@@ -2,10 +2,12 @@
 mod fault;
 mod input;
 mod line;
+mod pile;
 
 pub use fault::Fault;
 pub use fault::FaultFromBench;
 pub use fault::FaultFromGraph;
+pub use fault::FaultFromPolicy;
 pub use input::ENOUGH;
 pub use input::fill;
 pub use line::ROWS;

@@ -1,13 +1,18 @@
 ghost use mathlib.Core.Path.{_≡_};
 ghost use lib.ListN.{length};
 ghost use Rattle.std.specs.declared.option.Option.the-variants.{Some};
-ghost use Rattle.report.specs.Lines.{answerOf, rateIn, ReportIs, told, shownOf};
+ghost use Rattle.report.specs.Lines.{answerOf, rateIn, heldIn, ReportIs, told, shownOf};
 use crate::fault::Fault;
 use crate::fault::FaultFromBench;
+use crate::fault::FaultFromPolicy;
+use crate::pile::pile;
 use bench::Rate;
 use bench::Sample;
+use bench::promised_rate;
 use bench::unhindered_rate;
 use graph::Graph;
+use policy::RingPolicy;
+use policy::SlicePolicy;
 use std::fmt;
 
 // How many rows a run has for its samples.
@@ -19,10 +24,11 @@ pub struct Told {
     pub answer: Result<Rate, Fault>,
 }
 
-// What a file comes to: the rate of its graph, or why it is refused.
+// What a file comes to: the rates of its graph, or why it is refused.
 #[derive(Clone, Copy)]
 pub enum Report {
-    Rated(Told),
+    // of the unhindered run, and of the run that a shared card promises
+    Rated(Told, Told),
     Refused(Fault),
 }
 
@@ -42,15 +48,31 @@ fn rate(graph: &Graph) -> Result<Rate, Fault>
     Ok(rate)
 }
 
+// The rate of the run that a slice of 2 in 5 over a ring of all actors promises.
+fn held(graph: &Graph) -> Result<Rate, Fault>
+    ensures { λ r. ⌜ r ≡ heldIn (now (graph .entry)) ⌝ }
+{
+    let mut rows = rows();
+    let pile = pile(graph)?;
+    let rate = promised_rate(graph, &pile, &mut rows)?;
+    Ok(rate)
+}
+
 impl Report {
     // The report on a file.
     pub fn of(bytes: &[u8]) -> Report
         ensures { λ r. ⌜ ReportIs (now (bytes .entry)) r ⌝ }
     {
         match Graph::read(bytes) {
-            Ok(graph) => Report::Rated(Told {
-                answer: rate(&graph),
-            }),
+            Ok(graph) => {
+                let rate = Told {
+                    answer: rate(&graph),
+                };
+                let held = Told {
+                    answer: held(&graph),
+                };
+                Report::Rated(rate, held)
+            }
             Err(e) => Report::Refused(Fault::Graph(e)),
         }
     }
@@ -76,7 +98,7 @@ pub impl fmt::Display for Report as ReportDisplay {
 
     fn fmt<W: fmt::Write>(&self, f: &mut fmt::Formatter<W>) -> fmt::Result {
         match self {
-            Report::Rated(rate) => write!(f, "RATE {rate}"),
+            Report::Rated(rate, held) => write!(f, "RATE {rate}\nHELD {held}"),
             Report::Refused(fault) => {
                 let layer = fault.layer();
                 let number = fault.number();
