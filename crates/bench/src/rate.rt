@@ -9,7 +9,7 @@ ghost use Rattle.model.specs.Likeness.{Matches};
 ghost use Rattle.model.specs.Meaning.{«Rate-means» as RateMeans};
 ghost use Rattle.model.specs.Net.{Timed, ends, fallen, next as nextState};
 ghost use Rattle.bench.specs.Loops.{Fitting, Roomy, Countable};
-ghost use Rattle.bench.specs.Rates.{told, Rated, unhindered, Unbeaten, SampledIs, Judged};
+ghost use Rattle.bench.specs.Rates.{lastTick, told, Rated, unhindered, Unbeaten, SampledIs, Judged};
 ghost use Rattle.bench.specs.Rows.{leaves, Rising, Upto};
 ghost use Rattle.bench.specs.Seen.{netOf, net, at, timesOf, repsOf, state};
 ghost use Rattle.bench.specs.declared.sample.Sample.{Sample as Row};
@@ -50,7 +50,7 @@ fn row_tick(table: &Table<'_, Sample>, at: usize) -> u32
 
 // What a due sample answers: that the first row like it comes again, or that there is no row for it; else it takes one.
 fn sampled(table: &mut Table<'_, Sample>, row: Sample) -> Option<Result<Rate, Fault>>
-    requires few { ⌜ now table .used ≤ row .tick ⌝ }
+    requires few { ⌜ now table .used ≤ row .tick ⌝ ∗ ⌜ row .tick ≤ lastTick ⌝ }
     requires tops { ⌜ Upto (row .tick) (now (now table .rows)) (now table .used) ⌝ }
     ensures value { λ r. ⌜ SampledIs (now (now (table .entry) .rows)) (now (table .entry) .used) row (now (now (table .exit) .rows)) (now (table .exit) .used) r ⌝ }
     ensures rising { λ _. ⌜ (Rising (now (now (table .entry) .rows)) (now (table .entry) .used) → Rising (now (now (table .exit) .rows)) (now (table .exit) .used)) ⌝ }
@@ -80,7 +80,7 @@ fn judged(
     table: &mut Table<'_, Sample>,
 ) -> Option<Result<Rate, Fault>>
     requires room { ⌜ actors ≤ 16 ⌝ ∗ ⌜ channels ≤ 32 ⌝ }
-    requires few { ⌜ now table .used ≤ tick ⌝ }
+    requires few { ⌜ now table .used ≤ tick ⌝ ∗ ⌜ tick ≤ lastTick ⌝ }
     requires tops { ⌜ Upto tick (now (now table .rows)) (now table .used) ⌝ }
     ensures value { λ r. ⌜ Judged actors channels (state (now (run .entry))) due tick (now (now (table .entry) .rows)) (now (table .entry) .used) (now (now (table .exit) .rows)) (now (table .exit) .used) r ⌝ }
     ensures rising { λ _. ⌜ (Rising (now (now (table .entry) .rows)) (now (table .entry) .used) → Rising (now (now (table .exit) .rows)) (now (table .exit) .used)) ⌝ }
