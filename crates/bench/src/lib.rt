@@ -10,8 +10,8 @@ mod sample;
 mod sampling;
 mod steps;
 
-pub use fault::Fault;
 pub use agree::check_works;
+pub use fault::Fault;
 pub use promised::promised_rate;
 pub use rate::LAST_TICK;
 pub use rate::Rate;

@@ -29,7 +29,11 @@ fn promises<P: Policy>(policy: &P) -> [u16; 16]
 
 // The rate of the run with the policy's promises, with the caller's rows for its samples. A policy whose works are not the
 // graph's times is refused first.
-pub fn promised_rate<P: Policy>(graph: &Graph, policy: &P, rows: &mut [Sample]) -> Result<Rate, Fault>
+pub fn promised_rate<P: Policy>(
+    graph: &Graph,
+    policy: &P,
+    rows: &mut [Sample],
+) -> Result<Rate, Fault>
     ensures refused { λ r. ⌜ ((a : ℕ) → Differ (net (now (graph .entry))) (timesOf (now (graph .entry))) (P·Policy .view (now (policy .entry))) a → (r ≡ Err (Works a)) × (now (rows .exit) ≡ now (rows .entry))) ⌝ }
     ensures rated { λ r. ⌜ (Agreed (net (now (graph .entry))) (timesOf (now (graph .entry))) (P·Policy .view (now (policy .entry))) → Rated (net (now (graph .entry))) (P·Policy .view (now (policy .entry)) .promise) (repsOf (now (graph .entry)) 0) (now (rows .entry)) (now (rows .exit)) r) ⌝ }
     ensures means { λ _. ⌜ (Agreed (net (now (graph .entry))) (timesOf (now (graph .entry))) (P·Policy .view (now (policy .entry))) → RateMeans (net (now (graph .entry))) (P·Policy .view (now (policy .entry)) .promise) (repsOf (now (graph .entry))) (length (now (rows .entry))) (outcome (net (now (graph .entry))) (P·Policy .view (now (policy .entry)) .promise) (repsOf (now (graph .entry)) 0) (now (rows .entry)))) ⌝ }

@@ -37,7 +37,7 @@ told-err late f e = cc
 module _ (g : Graph) (time : ℕ → ℕ) (same : (a : ℕ) → time a ≡ promisedTo g a) (rows rows′ : List Sample) (many : length rows ≡ 256) (fits : promised g ≤ 65535)
     (r : Result Rate BenchFault) (h : Rated (net g) time (repsOf g 0) rows rows′ r) where
   held-answer : r ≡ told (rate-of (net g) (promisedTo g) (repsOf g 0) 256 lastTick .answer)
-  held-answer = rw many at (rated-as (net g) time (promisedTo g) (repsOf g 0) rows rows′ r same h .value)
+  held-answer = rw many at (rated-as {time′ = promisedTo g} same h .value)
 
   held-is : heldIn g ≡ answerOf (rate-of (net g) (promisedTo g) (repsOf g 0) 256 lastTick .answer)
   held-is = rw (le-leb (promised g) 65535 fits) refl

@@ -17,6 +17,6 @@ returns g c =
     let timed = promises-timed graph v (g .P·Policy·met .sound p) agreed in
     record {
       refused = λ a d. absurd (d .differs (agreed a));
-      rated = λ _. rated-as _ _ (v .promise) _ _ _ _ (c .promises .ensures) (c .rate-with .ensures);
+      rated = λ _. rated-as {time′ = v .promise} (c .promises .ensures) (c .rate-with .ensures);
       means = λ _. rate-holds (net graph) (v .promise) (repsOf graph) (graph-accepted graph (v .promise) timed) (length (c .args .rows .now)) lastTick;
     }
