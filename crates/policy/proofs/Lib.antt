@@ -1,0 +1,10 @@
+pub mod Joins
+pub mod Afters
+pub mod Sums
+pub mod Rounds
+pub mod Steps
+pub mod Rings
+pub mod Wheels
+pub mod Waits
+pub mod Slices
+pub mod Same

@@ -1,0 +1,33 @@
+use mathlib.Core.Path.{sym, _∙_}
+use Prim.Native.Nat.{ℕ, _+_, _-_, _*_, _/_, _≤_}
+use native.Mathlib.Omega.{arith}
+use native.Mathlib.Nat.{div-le-self}
+use Rattle.std.proofs.shelf.Bits.{mul-le}
+use Rattle.policy.proofs.Wheels.{closed-in, closed-out}
+use Rattle.policy.proofs.Waits.{wait-closed}
+use Rattle.policy.proofs.slice.awaited.Needs as need
+
+product : (p s n : ℕ) → p ≤ 255 → n ≤ 65790 → (p - s) * (n / s) ≤ 16776450
+product p s n h k = mul-le (p - s) (n / s) 255 65790 (omega arith) (omega (arith, div-le-self n s))
+
+pub mul-result : need.mul-result
+mul-result c = omega (arith, product (c .args .period) (c .args .slots) (c .args .wheel + (c .args .d - 1)) (omega arith) (omega arith))
+
+pub add-result-then-w-s : need.add-result-then-w-s
+add-result-then-w-s c = omega (arith, product (c .args .period) (c .args .slots) (c .args .wheel + (c .args .d - 1)) (omega arith) (omega arith))
+
+pub returns-then-w-s : need.returns-then-w-s
+returns-then-w-s c =
+    let p = c .args .period in
+    let s = c .args .slots in
+    let w = c .args .wheel in
+    let d = c .args .d in
+    sym (wait-closed p s (omega arith) (omega arith) w d (omega arith) ∙ closed-in p s w d (omega arith) (omega arith))
+
+pub returns-else-w-s : need.returns-else-w-s
+returns-else-w-s c =
+    let p = c .args .period in
+    let s = c .args .slots in
+    let w = c .args .wheel in
+    let d = c .args .d in
+    sym (wait-closed p s (omega arith) (omega arith) w d (omega arith) ∙ closed-out p s w d (omega arith) (omega arith))
