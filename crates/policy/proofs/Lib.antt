@@ -1,6 +1,7 @@
 pub mod Joins
 pub mod Afters
 pub mod Sums
+pub mod Dues
 pub mod Rounds
 pub mod Steps
 pub mod Rings
@@ -8,3 +9,7 @@ pub mod Wheels
 pub mod Waits
 pub mod Slices
 pub mod Same
+pub mod Members
+pub mod Exacts
+pub mod Overs
+pub mod Windows

@@ -5,51 +5,17 @@ use mathlib.Core.Bool.{Bool, true, false, cond}
 use mathlib.Core.List.{List}
 use Prim.Native.Nat.{ℕ, zero, suc, _+_, _-_, _≤_, _<_}
 use native.Mathlib.Omega.{arith}
-use lib.Dec.{ltb, eqb}
+use lib.Dec.{ltb}
 use lib.ListN.{getD}
 use Rattle.std.specs.declared.option.Option.{Option}
 use Rattle.std.specs.declared.option.Option.the-variants.{Some, None}
-use Rattle.std.proofs.shelf.Tests.{cases-lt, cases-eq, cases-bool, both-ways, lt-ltb, le-ltb, ne-eqb, eq-eqb, cond-true, cond-false}
+use Rattle.std.proofs.shelf.Tests.{cases-lt, cases-eq, cases-bool, both-ways, lt-ltb, le-ltb, cond-true, cond-false}
 use Rattle.policy.specs.Meaning.{View, Sound, SameTerms, Served}
 use Rattle.policy.specs.Round.{after}
 use Rattle.policy.specs.Turns.{total, waiting, next, round, owed, ringed, RingServes, RingRests, RingMoves, RingTicks}
 use Rattle.policy.proofs.Afters.{after-below}
+use Rattle.policy.proofs.Dues.{owed-none, owed-ended, owed-other, by-owed}
 use Rattle.policy.proofs.Sums.{total-next, total-mono, total-limit, ahead, ahead-some, ahead-most, ahead-step, round-ge, round-le, round-other, round-step}
-
--- due, way by way
-module _ (n : ℕ) (ws left : List ℕ) (t : ℕ) (busy : Bool) (b : ℕ) where
-  owed-none : getD left b 0 ≡ 0 → owed n ws left t busy b ≡ 0
-  owed-none z = cond-true _ _ _ (eq-eqb (getD left b 0) 0 z)
-
-  owed-some : 0 < getD left b 0 → owed n ws left t busy b ≡ cond busy (cond (eqb b t) (getD left b 0) (getD left t 0 + round ws n t b)) (round ws n t b)
-  owed-some h = cond-false _ _ _ (ne-eqb (getD left b 0) 0 (λ z. omega arith))
-
-  owed-ended : 0 < getD left b 0 → busy ≡ false → owed n ws left t busy b ≡ round ws n t b
-  owed-ended h f = owed-some h ∙ cond-false _ _ _ f
-
-  owed-own : 0 < getD left b 0 → busy ≡ true → b ≡ t → owed n ws left t busy b ≡ getD left b 0
-  owed-own h f s = owed-some h ∙ cond-true _ _ _ f ∙ cond-true _ _ _ (eq-eqb b t s)
-
-  owed-other : 0 < getD left b 0 → busy ≡ true → (b ≡ t → ⊥) → owed n ws left t busy b ≡ getD left t 0 + round ws n t b
-  owed-other h f o = owed-some h ∙ cond-true _ _ _ f ∙ cond-false _ _ _ (ne-eqb b t o)
-
-  by-owed : (P : ℕ → Type 0)
-      → (getD left b 0 ≡ 0 → P 0)
-      → (0 < getD left b 0 → busy ≡ false → P (round ws n t b))
-      → (0 < getD left b 0 → busy ≡ true → b ≡ t → P (getD left b 0))
-      → (0 < getD left b 0 → busy ≡ true → (b ≡ t → ⊥) → P (getD left t 0 + round ws n t b))
-      → P (owed n ws left t busy b)
-  by-owed P none ended own other =
-      ⊎-elim
-      (λ h. ⊎-elim
-      (λ f. ⊎-elim
-      (λ s. subst P (sym (owed-own h f s)) (own h f s))
-      (λ o. subst P (sym (owed-other h f o)) (other h f o))
-      (cases-eq b t))
-      (λ f. subst P (sym (owed-ended h f)) (ended h f))
-      (cases-bool busy))
-      (λ z. let e : getD left b 0 ≡ 0 = omega arith in subst P (sym (owed-none e)) (none e))
-      (cases-lt 0 (getD left b 0))
 
 -- what a ring's fields keep
 pub record Table (n : ℕ) (ws left : List ℕ) (t : ℕ) (busy : Bool) : Type 0 where

@@ -1,7 +1,8 @@
 -- What a pair shows and does.
 --     side n m a             which of two policies, of n and m actors, has actor a of the pair, and its number there
 --     seen s f g             what is seen at a side: of f by the first, of g by the second
---     joined v w             what a pair shows of what its two show
+--     joined-at n m v w      what a pair shows of what its two show, of n and m actors
+--     joined v w             the same, of as many actors as the two show
 --     SideBySide v w u       u shows the first's actors and after them the second's
 --     PairChecked v w r      what the check answers
 --     PairMade v w u         what a pair shows as it is made
@@ -26,7 +27,6 @@ abbrev pub seen : Side → (ℕ → ℕ) → (ℕ → ℕ) → ℕ
 seen (First b) f g = f b
 seen (Second b) f g = g b
 
--- with the numbers of actors n and m
 abbrev pub joined-at : ℕ → ℕ → View → View → View
 joined-at n m v w = record {
   number = cond (leb (n + m) 16) (n + m) n;

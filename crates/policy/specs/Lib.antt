@@ -7,3 +7,5 @@ pub mod Wheel
 pub mod Slices
 pub mod Join
 pub mod Worked
+pub mod Like
+pub mod Runs

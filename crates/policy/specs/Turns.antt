@@ -8,6 +8,7 @@
 --     ringed ..              what the ring shows
 --     RingServes .. x ..     a tick of x's turn
 --     RingRests .. ..        a tick when nobody has work left
+--     RingMoves o .. ..      a tick of the turn of o, if there is one
 --     RingTicks .. ..        one tick
 use mathlib.Core.Path.{_≡_}
 use mathlib.Core.Bool.{Bool, cond}

@@ -1,3 +1,5 @@
+mod ending;
+mod exact;
 mod fault;
 mod free;
 mod meaning;
@@ -8,6 +10,12 @@ mod rows;
 mod slice;
 mod worked;
 
+pub use ending::window;
+pub use exact::Exact;
+pub use exact::FreeExact;
+pub use exact::PairExact;
+pub use exact::RingExact;
+pub use exact::SliceExact;
 pub use fault::Fault;
 pub use free::Free;
 pub use free::FreePolicy;
