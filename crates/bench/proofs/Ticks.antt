@@ -8,14 +8,16 @@ use lib.Dec.{ltb, eqb}
 use lib.ListN.{length}
 use Rattle.std.proofs.shelf.Ways.{tells}
 use Rattle.graph.specs.declared.channel.Channel.{Channel}
-use Rattle.model.specs.Net.{Net, State, when, busy, ready, start, ends, finish, tick, initial-state, fallen, next, run}
+use Rattle.model.specs.Net.{Net, State, Timed, when, busy, ready, start, ends, finish, tick, initial-state, fallen, next, run}
 use Rattle.model.specs.Likeness.{Alike, Matches}
+use Rattle.model.proofs.Balance.{run-balanced, capacity-whole}
 use Rattle.model.proofs.Ready.{has-tokens, has-places}
+use Rattle.model.proofs.Runs.{run-few}
 use Rattle.model.proofs.Alikes.{alike-trans, start-alike, first-matches, tick-matches}
 use Rattle.bench.specs.declared.run.Run.{Run}
 use Rattle.bench.specs.Firings.{lefts}
 use Rattle.bench.specs.Seen.{netOf, at, state, taken}
-use Rattle.bench.specs.Loops.{flag, Bounded, Fitting, Marked, Takes, Taken, Begun, Filled, Rested, Fallen, Tallied, Given}
+use Rattle.bench.specs.Loops.{flag, Bounded, Fitting, Roomy, Countable, Marked, Takes, Taken, Begun, Filled, Rested, Fallen, Tallied, Given}
 
 -- the firings of a run take the ticks that fall
 pub taken-falls : (s : State) (a : ℕ) → taken s (fallen s) a ≡ fallen s a
@@ -87,3 +89,16 @@ module _ (n : ℕ) (cs : List Channel) (fit : Fitting n cs) where
         let e = tick-matches g (fit .sound) (at times) (taken (state r) (at left)) (fallen (state r)) (state r) (state r)
         (record { alike = record { tokens = λ c hc. refl; free = λ c hc. refl; left = λ a ha. refl }; ended = λ a ha. refl }) falling in
         record { alike = alike-trans g _ _ _ (h .alike) (e .alike); ended = λ a ha. h .ended a ha ∙ e .ended a ha }
+
+  -- the arrays have room for what a run puts there
+  module _ (time : ℕ → ℕ) (pos : Timed g time) (t : ℕ) (r : Run) (h : Matches g (state r) (run g time t)) where
+    pub run-roomy : Roomy cs r
+    run-roomy c hc =
+        let whole = capacity-whole g (fit .sound) (run g time t) (run-balanced g (fit .sound) time pos t) c hc in
+        let tokens = h .alike .tokens c hc in
+        let free = h .alike .free c hc in
+        let most = fit .small c hc in
+        (omega arith, omega arith)
+
+    pub run-countable : t ≤ 10_000_000 → Countable n r
+    run-countable early a ha = omega (arith, h .ended a ha, run-few g (fit .sound) time pos t a ha)

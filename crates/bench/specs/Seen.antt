@@ -1,12 +1,12 @@
 -- The graph, its times and its state as the model has them, read off the program's values. Assumes nothing.
 --
--- netOf   so many actors with these channels
--- net     a graph
--- at      a list as a table, 0 past its end
--- times   the graph's table of times
--- reps    its repetition counts
--- state   what stands in a run
--- taken   new ticks left, of the firings under way
+-- netOf    so many actors with these channels
+-- net      a graph
+-- at       a list as a table, 0 past its end
+-- timesOf  the graph's table of times
+-- repsOf   its repetition counts
+-- state    what stands in a run
+-- taken    new ticks left, of the firings under way
 use mathlib.Core.List.{List}
 use mathlib.Core.Bool.{cond}
 use Prim.Native.Nat.{ℕ}
@@ -38,11 +38,11 @@ net g = netOf (length (actorsIn g)) (channelsIn g)
 abbrev pub at : List ℕ → ℕ → ℕ
 at xs i = getD xs i 0
 
-abbrev pub times : Graph → ℕ → ℕ
-times g a = getD (actorsIn g) a nobody .time
+abbrev pub timesOf : Graph → ℕ → ℕ
+timesOf g a = getD (actorsIn g) a nobody .time
 
-abbrev pub reps : Graph → ℕ → ℕ
-reps g = at (countsIn g)
+abbrev pub repsOf : Graph → ℕ → ℕ
+repsOf g = at (countsIn g)
 
 abbrev pub state : Run → State
 state r = record { tokens = at (r .tokens); free = at (r .free); left = lefts (r .firings); ended = at (r .counts) }

@@ -8,3 +8,13 @@ pub struct Run {
     pub firings: [Firing; 16],
     pub counts: [u32; 16],
 }
+
+impl Run {
+    // Nothing stands anywhere.
+    pub const REST: Run = Run {
+        tokens: [0; 32],
+        free: [0; 32],
+        firings: [Firing::Idle; 16],
+        counts: [0; 16],
+    };
+}
