@@ -4,3 +4,9 @@ pub mod Listed
 pub mod Rowed
 pub mod Graphs
 pub mod Going
+pub mod Places
+pub mod Sharings
+pub mod Agreements
+pub mod Lays
+pub mod Shared
+pub mod Answered

@@ -140,7 +140,7 @@ fn rate_over(
 }
 
 // The rate of a graph's run with a table of times.
-fn rate_with(graph: &Graph, times: &[u16; 16], rows: &mut [Sample]) -> Result<Rate, Fault>
+pub fn rate_with(graph: &Graph, times: &[u16; 16], rows: &mut [Sample]) -> Result<Rate, Fault>
     requires { ⌜ Timed (net (now graph)) (at (now times)) ⌝ }
     ensures { λ r. ⌜ Rated (net (now (graph .entry))) (at (now (times .entry))) (repsOf (now (graph .entry)) 0) (now (rows .entry)) (now (rows .exit)) r ⌝ }
 {
@@ -154,7 +154,7 @@ fn rate_with(graph: &Graph, times: &[u16; 16], rows: &mut [Sample]) -> Result<Ra
 }
 
 // The graph's times, then zeros.
-fn times(graph: &Graph) -> [u16; 16]
+pub fn times(graph: &Graph) -> [u16; 16]
     ensures { λ r. ⌜ ((a : ℕ) → at r a ≡ timesOf (now (graph .entry)) a) ⌝ }
 {
     let actors = graph.actors();
