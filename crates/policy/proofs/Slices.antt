@@ -7,9 +7,9 @@ use native.Mathlib.Omega.{arith}
 use lib.Dec.{leb}
 use Rattle.std.proofs.shelf.Tests.{cases-lt, cases-bool, leb-true, leb-false, le-leb, lt-leb}
 use Rattle.policy.specs.Round.{after}
-use Rattle.policy.specs.Meaning.{View, Sound, SameTerms, Served, Cleared, Laid, ShowsAt, Alike}
+use Rattle.policy.specs.Meaning.{View, Sound, SameTerms, Served, Cleared, Laid}
 use Rattle.policy.specs.Wheel.{wide, wait}
-use Rattle.policy.specs.Slices.{turning, shown, sliced, Sliceable, SliceTicks, SliceKeeps, SliceLays}
+use Rattle.policy.specs.Slices.{shown, sliced, SliceTicks, SliceKeeps, SliceLays}
 use Rattle.policy.proofs.Wheels.{wide-ge, wide-zero}
 use Rattle.policy.proofs.Waits.{wait-ge, wait-mono, wait-wide, wait-served, wait-passed, wait-none}
 
@@ -156,15 +156,3 @@ module _ {X : Type 0} (view : X → View) (b c : X) (p s w q r u : ℕ) (one : 0
       (λ h t. moved (λ x. Laid (sliced (view b) p s w) x a) (sliced-laid p s w one within on (view b) k (view c) a h (law b c a t)))
       (λ h t. moved (λ x. Laid (sliced (view b) p s w) x a)
       (subst (λ (x : X). Laid (sliced (view b) p s w) (sliced (view x) p s w) a) (sym (t .1)) (sliced-unfit p s w one within on (view b) k a h (t .0))))
-
--- where every promise fits, all is shown
-pub sliced-plain : (v : View) (p s w : ℕ) → Sliceable v p s → Alike (turning v p s w) (sliced v p s w)
-sliced-plain v p s w k = record {
-  number = refl;
-  each = λ a. record {
-    work = shown-is (wide p s (v .promise a)) (v .work a) (k .fits a);
-    promise = shown-is (wide p s (v .promise a)) (wide p s (v .promise a)) (k .fits a);
-    left = shown-is (wide p s (v .promise a)) (v .left a) (k .fits a);
-    due = shown-is (wide p s (v .promise a)) (wait p s w (v .due a)) (k .fits a);
-  };
-}

@@ -7,7 +7,7 @@ use crate::fault::Fault;
 use crate::meaning::Policy;
 use crate::rows::Rows;
 
-// Everybody is served each tick.
+// Nobody waits for another.
 #[derive(Drop)]
 pub struct Free {
     rows: Rows,

@@ -6,7 +6,7 @@ ghost use Rattle.policy.specs.Join.{side, joined, PairChecked, PairMade, PairL
 use crate::fault::Fault;
 use crate::meaning::Policy;
 
-// Two policies side by side: the second's actors are numbered after the first's.
+// Two policies side by side, the second's actors after the first's.
 #[derive(Drop)]
 pub struct Pair<A: Policy, B: Policy> {
     first: A,

@@ -31,7 +31,7 @@ fn widened(period: u8, slots: u8, d: u16) -> u32
     d + (period as u32 - s) * ((d + (s - 1)) / s)
 }
 
-// The ticks until as many positions under `slots` have passed as `d` says.
+// How many ticks it takes until `d` positions under `slots` have gone by.
 fn awaited(period: u8, slots: u8, wheel: u8, d: u16) -> u32
     requires { ⌜ 0 < slots ⌝ ∗ ⌜ slots ≤ period ⌝ ∗ ⌜ wheel < period ⌝ }
     ensures { λ r. ⌜ r ≡ wait period slots wheel d ⌝ }
