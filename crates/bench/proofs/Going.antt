@@ -164,53 +164,8 @@ module _ (n : Net) (time : ℕ → ℕ) (rep : ℕ) (before : List Sample) (fit 
           by None live due h = takes live due rows′ used′ rising h
           by (Some r) live due h = sampled live due rows′ used′ r h
 
-  module _ (t : ℕ) (s : State) (due : Bool) (rows : List Sample) (used : ℕ) (g : Going n time rep before t s due rows used) where
-    pub judged-comes : (rows′ : List Sample) (used′ : ℕ) (r : Option (Result Rate Fault)) →
-        (Rises {X = Sample} (λ s. s .tick) rows used → Rises {X = Sample} (λ s. s .tick) rows′ used′) →
-        Judged (n .actors) (n .channels) s due t rows used rows′ used′ r → Comes n time rep before t rows rows′ used′ (g .taken) r
-    judged-comes = comes t rows used (g .taken) (g .kept) s (g .state) due (g .due)
-
-    pub answers-so : (rows′ : List Sample) (r : Result Rate Fault) → Done n time rep before t rows rows′ (g .taken) r → Rated n time rep before rows′ r
-    answers-so rows′ r d =
-        let o = g .so-far ∙ rated-answers n time rep room t (g .taken) (lastTick - t) (d .answer) (d .said) in
-        record {
-          value = d .is ∙ ap (λ x. told (x .answer)) (sym o);
-          after = d .same ∙ (g .kept .rows ∙ ap (λ x. leaves n time (x .taken) before) (sym o));
-          rising = rw (o, d .same, ← g .kept .used) (g .kept .rises);
-        }
-
-    -- after the verdict, at the last tick
-    pub ends-so : (rows′ : List Sample) (used′ : ℕ) → t ≡ lastTick → On n time rep before t rows′ used′ (g .taken) → Rated n time rep before rows′ (Err LastTick)
-    ends-so rows′ used′ last h =
-        let o : rate-of n time rep room lastTick ≡ record { answer = late; taken = h .taken′ } = g .so-far ∙ elim (h .said) [
-          | inl (said, is) ↦ rw is (step-last n time rep room lastTick t (g .taken) (omega arith) said)
-          | inr (said, is) ↦ rw is (step-last-row n time rep room lastTick t (g .taken) (omega arith) said)
-        ] in
-        record {
-          value = ap (λ x. told (x .answer)) (sym o);
-          after = h .kept .rows ∙ ap (λ x. leaves n time (x .taken) before) (sym o);
-          rising = rw (o, ← h .kept .used) (h .kept .rises);
-        }
-
-    -- after the verdict, before it
-    pub goes-on : (z : State) (due′ : Bool) (rows′ : List Sample) (used′ : ℕ) → (t ≡ lastTick → ⊥) → On n time rep before t rows′ used′ (g .taken) →
-        Matches n z (run n time (t + 1)) → due′ ≡ sample-due n time rep (t + 1) → Going n time rep before (t + 1) z due′ rows′ used′
-    goes-on z due′ rows′ used′ not-last h m d =
-        let lt : t < lastTick = omega (arith, g .early) in
-        record {
-          taken = h .taken′;
-          kept = h .kept;
-          early = omega arith;
-          state = m;
-          due = d;
-          so-far = g .so-far ∙ elim (h .said) [
-            | inl (said, is) ↦ rw is (step-on n time rep room lastTick t (g .taken) lt said)
-            | inr (said, is) ↦ rw is (step-takes-row n time rep room lastTick t (g .taken) lt said)
-          ];
-        }
-
-  pub begins : (s : State) → Matches n s (run n time 0) → Going n time rep before 0 s true before 0
-  begins s m = record {
+  pub begins : {s : State} → Matches n s (run n time 0) → Going n time rep before 0 s true before 0
+  begins m = record {
     taken = [];
     kept = record { rows = refl; used = refl; room = omega arith; few = omega arith; tops = λ i d lt. absurd (omega arith); rises = λ i j d le lt. absurd (omega arith) };
     early = omega arith;
@@ -219,25 +174,71 @@ module _ (n : Net) (time : ℕ → ℕ) (rep : ℕ) (before : List Sample) (fit 
     so-far = step-first n time rep room lastTick;
   }
 
+module _ {n : Net} {time : ℕ → ℕ} {rep : ℕ} {before : List Sample} (fit : (n .actors ≤ 16) × (n .channels ≤ 32)) {t : ℕ} {s : State} {due : Bool} {rows : List Sample} {used : ℕ}
+    (g : Going n time rep before t s due rows used) where
+  pub judged-comes : {rows′ : List Sample} {used′ : ℕ} {r : Option (Result Rate Fault)} →
+      (Rises {X = Sample} (λ s. s .tick) rows used → Rises {X = Sample} (λ s. s .tick) rows′ used′) →
+      Judged (n .actors) (n .channels) s due t rows used rows′ used′ r → Comes n time rep before t rows rows′ used′ (g .taken) r
+  judged-comes {rows′} {used′} {r} = comes n time rep before fit t rows used (g .taken) (g .kept) s (g .state) due (g .due) rows′ used′ r
+
+  pub answers-so : {rows′ : List Sample} {r : Result Rate Fault} → Done n time rep before t rows rows′ (g .taken) r → Rated n time rep before rows′ r
+  answers-so d =
+      let o = g .so-far ∙ rated-answers n time rep (length before) t (g .taken) (lastTick - t) (d .answer) (d .said) in
+      record {
+        value = d .is ∙ ap (λ x. told (x .answer)) (sym o);
+        after = d .same ∙ (g .kept .rows ∙ ap (λ x. leaves n time (x .taken) before) (sym o));
+        rising = rw (o, d .same, ← g .kept .used) (g .kept .rises);
+      }
+
+  -- after a verdict that goes on, at the last tick
+  pub ends-so : {rows′ : List Sample} {used′ : ℕ} → t ≡ lastTick → On n time rep before t rows′ used′ (g .taken) → Rated n time rep before rows′ (Err LastTick)
+  ends-so last h =
+      let o : rate-of n time rep (length before) lastTick ≡ record { answer = late; taken = h .taken′ } = g .so-far ∙ elim (h .said) [
+        | inl (said, is) ↦ rw is (step-last n time rep (length before) lastTick t (g .taken) (omega arith) said)
+        | inr (said, is) ↦ rw is (step-last-row n time rep (length before) lastTick t (g .taken) (omega arith) said)
+      ] in
+      record {
+        value = ap (λ x. told (x .answer)) (sym o);
+        after = h .kept .rows ∙ ap (λ x. leaves n time (x .taken) before) (sym o);
+        rising = rw (o, ← h .kept .used) (h .kept .rises);
+      }
+
+  -- and before the last tick
+  pub goes-on : {z : State} {due′ : Bool} {rows′ : List Sample} {used′ : ℕ} → (t ≡ lastTick → ⊥) → On n time rep before t rows′ used′ (g .taken) →
+      Matches n z (run n time (t + 1)) → due′ ≡ sample-due n time rep (t + 1) → Going n time rep before (t + 1) z due′ rows′ used′
+  goes-on not-last h m d =
+      let lt : t < lastTick = omega (arith, g .early) in
+      record {
+        taken = h .taken′;
+        kept = h .kept;
+        early = omega arith;
+        state = m;
+        due = d;
+        so-far = g .so-far ∙ elim (h .said) [
+          | inl (said, is) ↦ rw is (step-on n time rep (length before) lastTick t (g .taken) lt said)
+          | inr (said, is) ↦ rw is (step-takes-row n time rep (length before) lastTick t (g .taken) lt said)
+        ];
+      }
+
 -- whether a sample is due at the next tick
 up-one : (b : Bool) (e : ℕ) → ltb e (e + when b 1) ≡ b
 up-one true e = grind (arith, tells)
 up-one false e = grind (arith, tells)
 
-pub due-next : (n : Net) (time : ℕ → ℕ) (rep t : ℕ) (s z : State) → 0 < n .actors → Matches n s (run n time t) → Matches n z (run n time (t + 1)) →
+pub due-next : (n : Net) (time : ℕ → ℕ) (rep t : ℕ) {s z : State} → 0 < n .actors → Matches n s (run n time t) → Matches n z (run n time (t + 1)) →
     (ends s (fallen s) 0 && eqb (z .ended 0 % rep) 0) ≡ sample-due n time rep (t + 1)
-due-next n time rep t s z some m m′ =
+due-next n time rep t {s} {z} some m m′ =
     let same : ends s (fallen s) 0 ≡ ends (run n time t) (fallen (run n time t)) 0 = ap (λ l. ltb 0 l && eqb (l - 1) 0) (m .alike .left 0 some) in
     let up : ltb (run n time t .ended 0) (run n time (t + 1) .ended 0) ≡ ends (run n time t) (fallen (run n time t)) 0 =
     rw add-one (up-one (ends (run n time t) (fallen (run n time t)) 0) (run n time t .ended 0)) in
     ap₂ (λ x e. x && eqb (e % rep) 0) (same ∙ sym up) (m′ .ended 0 some) ∙ sym (due-later n time rep t)
 
 -- tables that agree have one outcome
-pub rated-as : (n : Net) (time time′ : ℕ → ℕ) (rep : ℕ) (rows rows′ : List Sample) (r : Result Rate Fault) → ((a : ℕ) → time a ≡ time′ a) →
+pub rated-as : {n : Net} {time time′ : ℕ → ℕ} {rep : ℕ} {rows rows′ : List Sample} {r : Result Rate Fault} → ((a : ℕ) → time a ≡ time′ a) →
     Rated n time rep rows rows′ r → Rated n time′ rep rows rows′ r
-rated-as n time time′ rep rows rows′ r h = subst (λ (f : ℕ → ℕ). Rated n f rep rows rows′ r) (λ i a. h a i)
+rated-as {n} {time} {time′} {rep} {rows} {rows′} {r} h = subst (λ (f : ℕ → ℕ). Rated n f rep rows rows′ r) (λ i a. h a i)
 
 -- the same of rows that are those
-pub rated-over : (n : Net) (time : ℕ → ℕ) (rep : ℕ) (before rows after rows′ : List Sample) (r : Result Rate Fault) → before ≡ rows → rows′ ≡ after →
+pub rated-over : {n : Net} {time : ℕ → ℕ} {rep : ℕ} {before rows after rows′ : List Sample} {r : Result Rate Fault} → before ≡ rows → rows′ ≡ after →
     Rated n time rep before after r → Rated n time rep rows rows′ r
-rated-over n time rep before rows after rows′ r e f h = rw (← e, f) h
+rated-over e f h = rw (← e, f) h

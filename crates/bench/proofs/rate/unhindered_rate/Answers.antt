@@ -9,7 +9,7 @@ use Rattle.bench.proofs.rate.unhindered_rate.Needs as need
 pub returns : need.returns
 returns c =
     let g = c .args .graph .now in
-    let r = rated-as _ _ (timesOf g) _ _ _ _ (c .times .ensures) (c .rate-with .ensures) in
+    let r = rated-as (c .times .ensures) (c .rate-with .ensures) in
     record {
       value = r .value;
       after = r .after;
