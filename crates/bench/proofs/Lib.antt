@@ -10,3 +10,5 @@ pub mod Agreements
 pub mod Lays
 pub mod Shared
 pub mod Answered
+pub mod Performs
+pub mod Stories

@@ -9,3 +9,4 @@ pub mod Agree
 pub mod Sharing
 pub mod Story
 pub mod Calls
+pub mod Rated
