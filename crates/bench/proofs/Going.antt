@@ -15,7 +15,7 @@ use Rattle.std.specs.declared.result.Result.the-variants.{Ok, Err}
 use Rattle.std.proofs.shelf.Lists.{length-push}
 use Rattle.std.proofs.shelf.Tests.{cases-bool}
 use Rattle.std.proofs.shelf.Ways.{tells}
-use Rattle.table.specs.Find.{FirstIs, Rises, Tops}
+use Rattle.table.specs.Find.{FirstIs}
 use Rattle.model.specs.Net.{Net, State, Sound, Timed, when, every, busy, ends, fallen, next, run}
 use Rattle.model.specs.Likeness.{Matches}
 use Rattle.model.specs.Rate.{Answer, standstill, repeats, no-row, late, Outcome, on, takes-row, answers, still, sample-due, says, rated, rate-of}
@@ -27,7 +27,7 @@ use Rattle.bench.specs.declared.fault.Fault.the-variants.{Works, NoRow, LastTi
 use Rattle.bench.specs.declared.rate.Rate.{Rate}
 use Rattle.bench.specs.declared.rate.Rate.the-variants.{Repeats, Standstill}
 use Rattle.bench.specs.declared.sample.Sample.{Sample}
-use Rattle.bench.specs.Rows.{sameRow, rowOf, rowAt, leaves}
+use Rattle.bench.specs.Rows.{sameRow, Rising, Upto, rowOf, rowAt, leaves}
 use Rattle.bench.specs.Rates.{lastTick, told, Rated, SampledIs, Judged}
 use Rattle.bench.proofs.Rowed.{same-row, row-is, length-leaves, taken-row, leaves-more, tops-more}
 
@@ -37,8 +37,8 @@ pub record Kept (n : Net) (time : ℕ → ℕ) (before : List Sample) (t : ℕ) 
   pub used : m ≡ length taken
   pub room : length taken ≤ length before
   pub few : length taken ≤ t
-  pub tops : Tops {X = Sample} (λ s. s .tick) xs m t
-  pub rises : Rises {X = Sample} (λ s. s .tick) xs m
+  pub tops : Upto t xs m
+  pub rises : Rising xs m
 
 -- What holds at each tick, before it is judged.
 pub record Going (n : Net) (time : ℕ → ℕ) (rep : ℕ) (before : List Sample) (t : ℕ) (s : State) (is-due : Bool) (rows : List Sample) (used : ℕ) : Type 0 where
@@ -100,7 +100,7 @@ module _ (n : Net) (time : ℕ → ℕ) (rep : ℕ) (before : List Sample) (fit 
       none h i lt = sym (compared i lt) ∙ h i (omega (arith, k .used))
 
       module _ (live : still n (run n time t) ≡ false) (due : sample-due n time rep t ≡ true) where
-        takes : (rows′ : List Sample) (used′ : ℕ) → (Rises {X = Sample} (λ s. s .tick) rows used → Rises {X = Sample} (λ s. s .tick) rows′ used′) →
+        takes : (rows′ : List Sample) (used′ : ℕ) → (Rising rows used → Rising rows′ used′) →
             SampledIs rows used row rows′ used′ None → On n time rep before t rows′ used′ taken
         unfolding row
         takes rows′ used′ rising (spare, new, is, more) =
@@ -144,7 +144,7 @@ module _ (n : Net) (time : ℕ → ℕ) (rep : ℕ) (before : List Sample) (fit 
             }
 
       comes : (due : Bool) → due ≡ sample-due n time rep t → (rows′ : List Sample) (used′ : ℕ) (r : Option (Result Rate Fault)) →
-          (Rises {X = Sample} (λ s. s .tick) rows used → Rises {X = Sample} (λ s. s .tick) rows′ used′) →
+          (Rising rows used → Rising rows′ used′) →
           Judged (n .actors) (n .channels) s due t rows used rows′ used′ r → Comes n time rep before t rows rows′ used′ taken r
       unfolding row
       comes due d rows′ used′ r rising j = elim (cases-bool (every (n .actors) (λ a. not (busy s a)))) [
@@ -177,7 +177,7 @@ module _ (n : Net) (time : ℕ → ℕ) (rep : ℕ) (before : List Sample) (fit 
 module _ {n : Net} {time : ℕ → ℕ} {rep : ℕ} {before : List Sample} (fit : (n .actors ≤ 16) × (n .channels ≤ 32)) {t : ℕ} {s : State} {due : Bool} {rows : List Sample} {used : ℕ}
     (g : Going n time rep before t s due rows used) where
   pub judged-comes : {rows′ : List Sample} {used′ : ℕ} {r : Option (Result Rate Fault)} →
-      (Rises {X = Sample} (λ s. s .tick) rows used → Rises {X = Sample} (λ s. s .tick) rows′ used′) →
+      (Rising rows used → Rising rows′ used′) →
       Judged (n .actors) (n .channels) s due t rows used rows′ used′ r → Comes n time rep before t rows rows′ used′ (g .taken) r
   judged-comes {rows′} {used′} {r} = comes n time rep before fit t rows used (g .taken) (g .kept) s (g .state) due (g .due) rows′ used′ r
 

@@ -13,14 +13,13 @@ use Rattle.std.proofs.shelf.Equals.{sameBytes-decides}
 use Rattle.std.proofs.shelf.Lists.{length-map, length-push, length-append, length-drop, getD-append-left, getD-map, map-push, append-assoc, drop-more, set-at}
 use Rattle.std.proofs.shelf.Tests.{cases-eq, eqb-true, eq-eqb, lt-ltb}
 use Rattle.std.proofs.shelf.Ways.{same-from-decides}
-use Rattle.table.specs.Find.{Tops}
 use Rattle.model.specs.Net.{Net, State, when, every, run}
 use Rattle.model.specs.Likeness.{Matches}
 use Rattle.model.specs.Rate.{same}
 use Rattle.model.proofs.Every.{every-true, every-from}
 use Rattle.bench.specs.declared.sample.Sample.{Sample}
 use Rattle.bench.specs.Seen.{at}
-use Rattle.bench.specs.Rows.{listed, sameRow, rowOf, rowAt, leaves}
+use Rattle.bench.specs.Rows.{listed, sameRow, Upto, rowOf, rowAt, leaves}
 use Rattle.bench.proofs.Listed.{at-listed, listed-same}
 
 -- two lists of first numbers are the same where these are
@@ -66,8 +65,8 @@ module _ (n : Net) (time : ℕ → ℕ) (taken : List ℕ) (rows : List Sample) 
       ∙ (sym (append-assoc (map (rowAt n time) taken) (x ∷ []) _) ∙ ap₂ (λ a k. a ++ drop k rows) (sym (map-push (rowAt n time) taken t)) (sym (length-push taken t))))
 
 -- stamps up to t, and one more of t, are stamps up to t
-pub tops-more : (xs : List Sample) (n t : ℕ) (x : Sample) → n < length xs → x .tick ≡ t → Tops {X = Sample} (λ s. s .tick) xs n t →
-    Tops {X = Sample} (λ s. s .tick) (set xs n x) (n + 1) t
+pub tops-more : (xs : List Sample) (n t : ℕ) (x : Sample) → n < length xs → x .tick ≡ t → Upto t xs n →
+    Upto t (set xs n x) (n + 1)
 tops-more xs n t x lt e h k d below = elim (cases-eq k n) [
   | inl is ↦ rw (is, getD-set-same xs n x d lt) (omega arith)
   | inr ne ↦ rw (getD-set-other xs n k x d ne) (h k d (omega arith))

@@ -57,24 +57,24 @@ module _ (n : ℕ) (cs : List Channel) (fit : Fitting n cs) where
       })
       (λ a ha. st .ended a ha ∙ e .counts-are a ha)
 
-  module _ (left times : List ℕ) (r z y x w : Run) (done : List Bool) (f : Fallen n left r z done) (t : Tallied n done z y) (v : Given (length cs) cs done y x) where
-    new : ℕ → ℕ
-    new = taken (state r) (at left)
-
-    ended : Alike g (state x) (finish g new (state r))
-    unfolding new
-    ended = record {
+  pub finish-matches : (left : List ℕ) (r z y x : Run) (done : List Bool) → Fallen n left r z done → Tallied n done z y → Given (length cs) cs done y x →
+      Matches g (state x) (finish g (taken (state r) (at left)) (state r))
+  finish-matches left r z y x done f t v = record {
+    alike = record {
       tokens = λ c hc. v .tokens-are c hc ∙ ap₂ (λ xs b. at xs c + when b (g .p c)) (t .tokens ∙ f .tokens) (f .done-are (g .source c) (fit .sound .source-in c hc));
       free = λ c hc. v .free-are c hc ∙ ap₂ (λ xs b. at xs c + when b (g .q c)) (t .free ∙ f .free) (f .done-are (g .dest c) (fit .sound .dest-in c hc));
       left = λ a ha. ap (λ fs. lefts fs a) (v .firings ∙ t .firings) ∙ f .are a ha;
-    }
+    };
+    ended = λ a ha. ap (λ xs. at xs a) (v .counts) ∙ t .are a ha ∙ ap₂ (λ xs b. at xs a + when b 1) (f .counts) (f .done-are a ha);
+  }
 
-    pub step-matches : Matches g (state w) (start g (at times) (state x)) → Matches g (state w) (tick g (at times) (taken (state r) (at left)) (state r))
-    unfolding new
-    step-matches st = record {
-      alike = alike-trans g _ _ _ (st .alike) (start-alike g (fit .sound) (at times) _ _ ended);
-      ended = λ a ha. st .ended a ha ∙ ap (λ xs. at xs a) (v .counts) ∙ t .are a ha ∙ ap₂ (λ xs b. at xs a + when b 1) (f .counts) (f .done-are a ha);
-    }
+  -- ends, and then starts
+  pub step-matches : (time : ℕ → ℕ) (new : ℕ → ℕ) (s : State) (r z : Run) → Matches g (state r) (finish g new s) → Matches g (state z) (start g time (state r)) →
+      Matches g (state z) (tick g time new s)
+  step-matches time new s r z f st = record {
+    alike = alike-trans g _ _ _ (st .alike) (start-alike g (fit .sound) time _ _ (f .alike));
+    ended = λ a ha. st .ended a ha ∙ f .ended a ha;
+  }
 
   -- with the ticks that fall
   module _ (left times : List ℕ) (r w : Run) (falls : (a : ℕ) → a < n → at left a ≡ fallen (state r) a) where

@@ -26,7 +26,7 @@ use Rattle.graph.specs.declared.channel.Channel.{Channel}
 use Rattle.graph.specs.Channels.{Every, Ends}
 use Rattle.bench.specs.declared.run.Run.{Run}
 use Rattle.bench.specs.Firings.{lefts}
-use Rattle.bench.specs.Seen.{netOf, at, state, taken}
+use Rattle.bench.specs.Seen.{channelAt, netOf, at, state, taken}
 
 abbrev pub flag : List Bool → ℕ → Bool
 flag bs a = getD bs a false
@@ -37,7 +37,7 @@ Bounded cs = (length cs ≤ 32) × Every (Ends 16) cs
 pub record Fitting (n : ℕ) (cs : List Channel) : Type 0 where
   pub few : (n ≤ 16) × (length cs ≤ 32)
   pub sound : Sound (netOf n cs)
-  pub small : (c : ℕ) → c < length cs → netOf n cs .capacity c ≤ 4096
+  pub small : (c : ℕ) → c < length cs → channelAt cs c .capacity ≤ 4096
 
 abbrev pub Roomy : List Channel → Run → Type 0
 Roomy cs r = (c : ℕ) → c < length cs → (at (r .tokens) c ≤ 4096) × (at (r .free) c ≤ 4096)
@@ -55,14 +55,14 @@ pub record Marked (i n : ℕ) (cs : List Channel) (r : Run) (go : List Bool) : T
   pub are : (a : ℕ) → a < n → flag go a ≡ (not (busy (state r) a) && every i (lets (netOf n cs) (state r) a))
 
 pub record Takes (cs : List Channel) (go : List Bool) (r : Run) : Type 0 where
-  pub tokens : (c : ℕ) → c < length cs → flag go (netOf 0 cs .dest c) ≡ true → netOf 0 cs .q c ≤ at (r .tokens) c
-  pub places : (c : ℕ) → c < length cs → flag go (netOf 0 cs .source c) ≡ true → netOf 0 cs .p c ≤ at (r .free) c
+  pub tokens : (c : ℕ) → c < length cs → flag go (channelAt cs c .dest) ≡ true → channelAt cs c .q ≤ at (r .tokens) c
+  pub places : (c : ℕ) → c < length cs → flag go (channelAt cs c .source) ≡ true → channelAt cs c .p ≤ at (r .free) c
 
 pub record Taken (i : ℕ) (cs : List Channel) (go : List Bool) (r z : Run) : Type 0 where
   pub firings : z .firings ≡ r .firings
   pub counts : z .counts ≡ r .counts
-  pub tokens-are : (c : ℕ) → c < i → at (z .tokens) c ≡ at (r .tokens) c - when (flag go (netOf 0 cs .dest c)) (netOf 0 cs .q c)
-  pub free-are : (c : ℕ) → c < i → at (z .free) c ≡ at (r .free) c - when (flag go (netOf 0 cs .source c)) (netOf 0 cs .p c)
+  pub tokens-are : (c : ℕ) → c < i → at (z .tokens) c ≡ at (r .tokens) c - when (flag go (channelAt cs c .dest)) (channelAt cs c .q)
+  pub free-are : (c : ℕ) → c < i → at (z .free) c ≡ at (r .free) c - when (flag go (channelAt cs c .source)) (channelAt cs c .p)
   pub tokens-stay : (c : ℕ) → i ≤ c → at (z .tokens) c ≡ at (r .tokens) c
   pub free-stay : (c : ℕ) → i ≤ c → at (z .free) c ≡ at (r .free) c
 
@@ -92,16 +92,16 @@ pub record Tallied (i : ℕ) (done : List Bool) (r z : Run) : Type 0 where
 pub record Given (i : ℕ) (cs : List Channel) (done : List Bool) (r z : Run) : Type 0 where
   pub firings : z .firings ≡ r .firings
   pub counts : z .counts ≡ r .counts
-  pub tokens-are : (c : ℕ) → c < i → at (z .tokens) c ≡ at (r .tokens) c + when (flag done (netOf 0 cs .source c)) (netOf 0 cs .p c)
-  pub free-are : (c : ℕ) → c < i → at (z .free) c ≡ at (r .free) c + when (flag done (netOf 0 cs .dest c)) (netOf 0 cs .q c)
+  pub tokens-are : (c : ℕ) → c < i → at (z .tokens) c ≡ at (r .tokens) c + when (flag done (channelAt cs c .source)) (channelAt cs c .p)
+  pub free-are : (c : ℕ) → c < i → at (z .free) c ≡ at (r .free) c + when (flag done (channelAt cs c .dest)) (channelAt cs c .q)
   pub tokens-stay : (c : ℕ) → i ≤ c → at (z .tokens) c ≡ at (r .tokens) c
   pub free-stay : (c : ℕ) → i ≤ c → at (z .free) c ≡ at (r .free) c
 
 pub record Filled (i : ℕ) (cs : List Channel) (r z : Run) : Type 0 where
   pub firings : z .firings ≡ r .firings
   pub counts : z .counts ≡ r .counts
-  pub tokens-are : (c : ℕ) → c < i → at (z .tokens) c ≡ netOf 0 cs .initial c
-  pub free-are : (c : ℕ) → c < i → at (z .free) c ≡ netOf 0 cs .capacity c - netOf 0 cs .initial c
+  pub tokens-are : (c : ℕ) → c < i → at (z .tokens) c ≡ channelAt cs c .tokens
+  pub free-are : (c : ℕ) → c < i → at (z .free) c ≡ channelAt cs c .capacity - channelAt cs c .tokens
 
 pub record Rested (i : ℕ) (r z : Run) : Type 0 where
   pub tokens : z .tokens ≡ r .tokens

@@ -17,7 +17,7 @@ use Rattle.std.specs.declared.option.Option.{Option}
 use Rattle.std.specs.declared.option.Option.the-variants.{Some, None}
 use Rattle.std.specs.declared.result.Result.{Result}
 use Rattle.std.specs.declared.result.Result.the-variants.{Ok, Err}
-use Rattle.table.specs.Find.{FirstIs, Rises}
+use Rattle.table.specs.Find.{FirstIs}
 use Rattle.graph.specs.declared.graph.Graph.{Graph}
 use Rattle.model.specs.Net.{Net, State, every, busy, run}
 use Rattle.model.specs.Schedule.{Schedule, Allowed}
@@ -28,7 +28,7 @@ use Rattle.bench.specs.declared.rate.Rate.{Rate}
 use Rattle.bench.specs.declared.rate.Rate.the-variants.{Repeats, Standstill}
 use Rattle.bench.specs.declared.sample.Sample.{Sample}
 use Rattle.bench.specs.Seen.{net, timesOf, repsOf}
-use Rattle.bench.specs.Rows.{sameRow, rowOf, leaves}
+use Rattle.bench.specs.Rows.{sameRow, Rising, rowOf, leaves}
 
 abbrev pub lastTick : ℕ
 lastTick = 10_000_000
@@ -46,7 +46,7 @@ told late = Err LastTick
 pub record Rated (n : Net) (time : ℕ → ℕ) (rep : ℕ) (rows rows′ : List Sample) (r : Result Rate Fault) : Type 0 where
   pub value : r ≡ told (outcome n time rep rows .answer)
   pub after : rows′ ≡ leaves n time (outcome n time rep rows .taken) rows
-  pub rising : Rises {X = Sample} (λ s. s .tick) rows′ (length (outcome n time rep rows .taken))
+  pub rising : Rising rows′ (length (outcome n time rep rows .taken))
 
 abbrev pub unhindered : Graph → List Sample → Outcome
 unhindered g rows = outcome (net g) (timesOf g) (repsOf g 0) rows

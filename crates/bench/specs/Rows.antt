@@ -1,6 +1,8 @@
 -- The rows that rate leaves. Assumes nothing.
 --
 -- sameRow  the same tokens and ticks left
+-- Rising   the ticks of the first rows never fall from row to row
+-- Upto     and none of them is after a tick
 -- listed   a table's first numbers, then zeros, as a list of some size
 -- rowOf    the row of a state at a tick
 -- rowAt    the row of a run at a tick
@@ -12,11 +14,18 @@ use lib.Dec.{ltb}
 use lib.ListN.{length, drop}
 use Rattle.std.specs.Iters.{counting}
 use Rattle.std.specs.shelf.Text.{sameBytes}
+use Rattle.table.specs.Find.{Rises, Tops}
 use Rattle.model.specs.Net.{Net, State, when, run}
 use Rattle.bench.specs.declared.sample.Sample.{Sample}
 
 abbrev pub sameRow : Sample → Sample → Bool
 sameRow a b = sameBytes (a .tokens) (b .tokens) && sameBytes (a .left) (b .left)
+
+abbrev pub Rising : List Sample → ℕ → Type 0
+Rising rows n = Rises {X = Sample} (λ r. r .tick) rows n
+
+abbrev pub Upto : ℕ → List Sample → ℕ → Type 0
+Upto t rows n = Tops {X = Sample} (λ r. r .tick) rows n t
 
 unfoldable pub listed : ℕ → ℕ → (ℕ → ℕ) → List ℕ
 listed size k f = map (λ i. when (ltb i k) (f i)) (counting 0 size)

@@ -1,12 +1,13 @@
 -- The graph, its times and its state as the model has them, read off the program's values. Assumes nothing.
 --
--- netOf    so many actors with these channels
--- net      a graph
--- at       a list as a table, 0 past its end
--- timesOf  the graph's table of times
--- repsOf   its repetition counts
--- state    what stands in a run
--- taken    new ticks left, of the firings under way
+-- channelAt  a channel by its number, zeros past the last
+-- netOf      so many actors with these channels
+-- net        a graph
+-- at         a list as a table, 0 past its end
+-- timesOf    the graph's table of times
+-- repsOf     its repetition counts
+-- state      what stands in a run
+-- taken      new ticks left, of the firings under way
 use mathlib.Core.List.{List}
 use mathlib.Core.Bool.{cond}
 use Prim.Native.Nat.{ℕ}
@@ -20,16 +21,19 @@ use Rattle.graph.specs.Meaning.{actorsIn, channelsIn, countsIn}
 use Rattle.bench.specs.declared.run.Run.{Run}
 use Rattle.bench.specs.Firings.{lefts}
 
+abbrev pub channelAt : List Channel → ℕ → Channel
+channelAt cs c = getD cs c blank
+
 abbrev pub netOf : ℕ → List Channel → Net
 netOf n cs = record {
   actors = n;
   channels = length cs;
-  source = λ c. getD cs c blank .source;
-  dest = λ c. getD cs c blank .dest;
-  p = λ c. getD cs c blank .p;
-  q = λ c. getD cs c blank .q;
-  capacity = λ c. getD cs c blank .capacity;
-  initial = λ c. getD cs c blank .tokens;
+  source = λ c. channelAt cs c .source;
+  dest = λ c. channelAt cs c .dest;
+  p = λ c. channelAt cs c .p;
+  q = λ c. channelAt cs c .q;
+  capacity = λ c. channelAt cs c .capacity;
+  initial = λ c. channelAt cs c .tokens;
 }
 
 abbrev pub net : Graph → Net

@@ -5,13 +5,12 @@ ghost use Prim.Native.Nat.{ℕ, _+_, _%_, _<_, _≤_};
 ghost use lib.Dec.{eqb};
 ghost use lib.ListN.{length, getD};
 ghost use denote.Ref.{name};
-ghost use Rattle.table.specs.Find.{Rises, Tops};
 ghost use Rattle.model.specs.Likeness.{Matches};
 ghost use Rattle.model.specs.Meaning.{«Rate-means» as RateMeans};
 ghost use Rattle.model.specs.Net.{Timed, ends, fallen, next as nextState};
 ghost use Rattle.bench.specs.Loops.{Fitting, Roomy, Countable};
-ghost use Rattle.bench.specs.Rates.{told, Rated, unhindered, Unbeaten, SampledIs, Judged};
-ghost use Rattle.bench.specs.Rows.{leaves};
+ghost use Rattle.bench.specs.Rates.{lastTick, told, Rated, unhindered, Unbeaten, SampledIs, Judged};
+ghost use Rattle.bench.specs.Rows.{leaves, Rising, Upto};
 ghost use Rattle.bench.specs.Seen.{netOf, net, at, timesOf, repsOf, state};
 ghost use Rattle.bench.specs.declared.sample.Sample.{Sample as Row};
 use crate::fault::Fault;
@@ -51,10 +50,10 @@ fn row_tick(table: &Table<'_, Sample>, at: usize) -> u32
 
 // What a due sample answers: that the first row like it comes again, or that there is no row for it; else it takes one.
 fn sampled(table: &mut Table<'_, Sample>, row: Sample) -> Option<Result<Rate, Fault>>
-    requires few { ⌜ now table .used ≤ row .tick ⌝ }
-    requires tops { ⌜ Tops {X = Row} (λ s. s .tick) (now (now table .rows)) (now table .used) (row .tick) ⌝ }
+    requires few { ⌜ now table .used ≤ row .tick ⌝ ∗ ⌜ row .tick ≤ lastTick ⌝ }
+    requires tops { ⌜ Upto (row .tick) (now (now table .rows)) (now table .used) ⌝ }
     ensures value { λ r. ⌜ SampledIs (now (now (table .entry) .rows)) (now (table .entry) .used) row (now (now (table .exit) .rows)) (now (table .exit) .used) r ⌝ }
-    ensures rising { λ _. ⌜ (Rises {X = Row} (λ s. s .tick) (now (now (table .entry) .rows)) (now (table .entry) .used) → Rises {X = Row} (λ s. s .tick) (now (now (table .exit) .rows)) (now (table .exit) .used)) ⌝ }
+    ensures rising { λ _. ⌜ (Rising (now (now (table .entry) .rows)) (now (table .entry) .used) → Rising (now (now (table .exit) .rows)) (now (table .exit) .used)) ⌝ }
     ensures lender { λ _. ⌜ name (now (table .exit) .rows) ≡ name (now (table .entry) .rows) ⌝ }
 {
     let Some(r) = table.find(&row) else {
@@ -81,10 +80,10 @@ fn judged(
     table: &mut Table<'_, Sample>,
 ) -> Option<Result<Rate, Fault>>
     requires room { ⌜ actors ≤ 16 ⌝ ∗ ⌜ channels ≤ 32 ⌝ }
-    requires few { ⌜ now table .used ≤ tick ⌝ }
-    requires tops { ⌜ Tops {X = Row} (λ s. s .tick) (now (now table .rows)) (now table .used) tick ⌝ }
+    requires few { ⌜ now table .used ≤ tick ⌝ ∗ ⌜ tick ≤ lastTick ⌝ }
+    requires tops { ⌜ Upto tick (now (now table .rows)) (now table .used) ⌝ }
     ensures value { λ r. ⌜ Judged actors channels (state (now (run .entry))) due tick (now (now (table .entry) .rows)) (now (table .entry) .used) (now (now (table .exit) .rows)) (now (table .exit) .used) r ⌝ }
-    ensures rising { λ _. ⌜ (Rises {X = Row} (λ s. s .tick) (now (now (table .entry) .rows)) (now (table .entry) .used) → Rises {X = Row} (λ s. s .tick) (now (now (table .exit) .rows)) (now (table .exit) .used)) ⌝ }
+    ensures rising { λ _. ⌜ (Rising (now (now (table .entry) .rows)) (now (table .entry) .used) → Rising (now (now (table .exit) .rows)) (now (table .exit) .used)) ⌝ }
     ensures lender { λ _. ⌜ name (now (table .exit) .rows) ≡ name (now (table .entry) .rows) ⌝ }
 {
     if is_still(actors, run) {
@@ -169,7 +168,7 @@ pub fn times(graph: &Graph) -> [u16; 16]
 pub fn unhindered_rate(graph: &Graph, rows: &mut [Sample]) -> Result<Rate, Fault>
     ensures value { λ r. ⌜ r ≡ told (unhindered (now (graph .entry)) (now (rows .entry)) .answer) ⌝ }
     ensures after { λ _. ⌜ now (rows .exit) ≡ leaves (net (now (graph .entry))) (timesOf (now (graph .entry))) (unhindered (now (graph .entry)) (now (rows .entry)) .taken) (now (rows .entry)) ⌝ }
-    ensures rising { λ _. ⌜ Rises {X = Row} (λ s. s .tick) (now (rows .exit)) (length (unhindered (now (graph .entry)) (now (rows .entry)) .taken)) ⌝ }
+    ensures rising { λ _. ⌜ Rising (now (rows .exit)) (length (unhindered (now (graph .entry)) (now (rows .entry)) .taken)) ⌝ }
     ensures means { λ _. ⌜ RateMeans (net (now (graph .entry))) (timesOf (now (graph .entry))) (repsOf (now (graph .entry))) (length (now (rows .entry))) (unhindered (now (graph .entry)) (now (rows .entry))) ⌝ }
     ensures fastest { λ _. ⌜ Unbeaten (now (graph .entry)) ⌝ }
 {

@@ -1,4 +1,6 @@
 // Rows of the tokens and ticks left of a run.
+ghost use mathlib.Core.Path.{_≡_};
+ghost use Rattle.std.specs.shelf.Text.{sameBytes as sameNumbers};
 ghost use Rattle.bench.specs.Rows.{sameRow};
 use table::Record;
 
@@ -19,13 +21,20 @@ impl Sample {
     };
 }
 
+// Whether two rows of numbers are the same.
+fn equal(a: &[u16], b: &[u16]) -> bool
+    ensures { λ r. ⌜ r ≡ sameNumbers (now (a .entry)) (now (b .entry)) ⌝ }
+{
+    a == b
+}
+
 pub impl Record for Sample as SampleRecord {
     ghost alike = { sameRow };
 
     ghost stamped = { λ a. a .tick };
 
     fn same(&self, other: &Sample) -> bool {
-        &self.tokens[..] == &other.tokens[..] && &self.left[..] == &other.left[..]
+        equal(&self.tokens[..], &other.tokens[..]) && equal(&self.left[..], &other.left[..])
     }
 
     fn stamp(&self) -> u32 {

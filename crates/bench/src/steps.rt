@@ -3,7 +3,7 @@ ghost use mathlib.Core.Path.{_≡_};
 ghost use Prim.Native.Nat.{ℕ, _<_, _≤_};
 ghost use lib.ListN.{length};
 ghost use Rattle.model.specs.Likeness.{Matches};
-ghost use Rattle.model.specs.Net.{start, ends, tick, fallen, next as nextState, run as runAt};
+ghost use Rattle.model.specs.Net.{start, ends, finish as finished, tick, fallen, next as nextState, run as runAt};
 ghost use Rattle.bench.specs.Seen.{netOf, at, state, taken};
 ghost use Rattle.bench.specs.Loops.{flag, Fitting, Roomy, Countable};
 use crate::loops::begin;
@@ -37,6 +37,21 @@ pub fn reset(actors: usize, channels: &[Channel], times: &[u16; 16], run: &mut R
     start_ready(actors, channels, times, run);
 }
 
+// The firings under way come to the new ticks left, and those that come to 0 end; marks these.
+fn finish(actors: usize, channels: &[Channel], left: &[u16; 16], run: &mut Run) -> [bool; 16]
+    requires fitting { ⌜ Fitting actors (now channels) ⌝ }
+    requires roomy { ⌜ Roomy (now channels) (now run) ⌝ }
+    requires countable { ⌜ Countable actors (now run) ⌝ }
+    ensures size { λ r. ⌜ length r ≡ 16 ⌝ }
+    ensures done { λ r. ⌜ ((a : ℕ) → a < actors → flag r a ≡ ends (state (now (run .entry))) (taken (state (now (run .entry))) (at (now (left .entry)))) a) ⌝ }
+    ensures after { λ _. ⌜ Matches (netOf actors (now (channels .entry))) (state (now (run .exit))) (finished (netOf actors (now (channels .entry))) (taken (state (now (run .entry))) (at (now (left .entry)))) (state (now (run .entry)))) ⌝ }
+{
+    let done = fall(actors, left, run);
+    tally(actors, &done, run);
+    give(channels, &done, run);
+    done
+}
+
 // A later tick, with the new ticks left of the firings under way; marks the firings that ended.
 pub fn step(
     actors: usize,
@@ -52,9 +67,7 @@ pub fn step(
     ensures done { λ r. ⌜ ((a : ℕ) → a < actors → flag r a ≡ ends (state (now (run .entry))) (taken (state (now (run .entry))) (at (now (left .entry)))) a) ⌝ }
     ensures after { λ _. ⌜ Matches (netOf actors (now (channels .entry))) (state (now (run .exit))) (tick (netOf actors (now (channels .entry))) (at (now (times .entry))) (taken (state (now (run .entry))) (at (now (left .entry)))) (state (now (run .entry)))) ⌝ }
 {
-    let done = fall(actors, left, run);
-    tally(actors, &done, run);
-    give(channels, &done, run);
+    let done = finish(actors, channels, left, run);
     start_ready(actors, channels, times, run);
     done
 }
