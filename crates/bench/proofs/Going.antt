@@ -23,7 +23,7 @@ use Rattle.model.proofs.Every.{every-same}
 use Rattle.model.proofs.Verdicts.{same-at, says-standstill, says-on, says-repeats, says-takes-row, says-no-row, due-later}
 use Rattle.model.proofs.Steps.{step-first, step-on, step-takes-row, step-last, step-last-row, rated-answers}
 use Rattle.bench.specs.declared.fault.Fault.{Fault}
-use Rattle.bench.specs.declared.fault.Fault.the-variants.{Works, NoRow, LastTick}
+use Rattle.bench.specs.declared.fault.Fault.the-variants.{Works, NoRow, LastTick, Absent}
 use Rattle.bench.specs.declared.rate.Rate.{Rate}
 use Rattle.bench.specs.declared.rate.Rate.the-variants.{Repeats, Standstill}
 use Rattle.bench.specs.declared.sample.Sample.{Sample}
@@ -124,6 +124,7 @@ module _ (n : Net) (time : ℕ → ℕ) (rep : ℕ) (before : List Sample) (fit 
         sampled rows′ used′ (Ok (Standstill f)) h = absurd h
         sampled rows′ used′ (Err LastTick) h = absurd h
         sampled rows′ used′ (Err (Works a)) h = absurd h
+        sampled rows′ used′ (Err Absent) h = absurd h
         sampled rows′ used′ (Err NoRow) (full, new, is, _) = record {
           answer = no-row;
           said = says-no-row n time rep room t taken live due (none new)

@@ -4,4 +4,11 @@ pub mod Listed
 pub mod Rowed
 pub mod Graphs
 pub mod Going
-pub mod Agrees
+pub mod Places
+pub mod Sharings
+pub mod Agreements
+pub mod Lays
+pub mod Shared
+pub mod Answered
+pub mod Performs
+pub mod Stories

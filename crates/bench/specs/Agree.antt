@@ -16,17 +16,17 @@ use Rattle.model.specs.Net.{Net}
 use Rattle.bench.specs.declared.fault.Fault.{Fault}
 use Rattle.bench.specs.declared.fault.Fault.the-variants.{Works}
 
-pub record Agree (n : Net) (time : ℕ → ℕ) (v : View) (a : ℕ) : Type 0 where
-  pub there : a < n .actors → a < v .number
-  pub here : a < v .number → a < n .actors
+pub record Agree (actors : ℕ) (time : ℕ → ℕ) (v : View) (a : ℕ) : Type 0 where
+  pub there : a < actors → a < v .number
+  pub here : a < v .number → a < actors
   pub same : v .work a ≡ time a
 
 abbrev pub Agreed : Net → (ℕ → ℕ) → View → Type 0
-Agreed n time v = (a : ℕ) → Agree n time v a
+Agreed n time v = (a : ℕ) → Agree (n .actors) time v a
 
 pub record Differ (n : Net) (time : ℕ → ℕ) (v : View) (a : ℕ) : Type 0 where
-  pub differs : Agree n time v a → ⊥
-  pub lowest : (b : ℕ) → b < a → Agree n time v b
+  pub differs : Agree (n .actors) time v a → ⊥
+  pub lowest : (b : ℕ) → b < a → Agree (n .actors) time v b
 
 abbrev pub Lowest : Net → (ℕ → ℕ) → View → Option ℕ → Type 0
 Lowest n time v None = Agreed n time v

@@ -4,4 +4,9 @@ pub mod Loops
 pub mod Faults
 pub mod Rows
 pub mod Rates
+pub mod Places
 pub mod Agree
+pub mod Sharing
+pub mod Story
+pub mod Calls
+pub mod Rated

@@ -23,7 +23,7 @@ use Rattle.model.specs.Net.{Net, State, every, busy, run}
 use Rattle.model.specs.Schedule.{Schedule, Allowed}
 use Rattle.model.specs.Rate.{Answer, standstill, repeats, no-row, late, Outcome, rate-of}
 use Rattle.bench.specs.declared.fault.Fault.{Fault}
-use Rattle.bench.specs.declared.fault.Fault.the-variants.{Works, NoRow, LastTick}
+use Rattle.bench.specs.declared.fault.Fault.the-variants.{Works, NoRow, LastTick, Absent}
 use Rattle.bench.specs.declared.rate.Rate.{Rate}
 use Rattle.bench.specs.declared.rate.Rate.the-variants.{Repeats, Standstill}
 use Rattle.bench.specs.declared.sample.Sample.{Sample}
@@ -63,6 +63,7 @@ SampledIs xs n x ys m (Some (Ok (Standstill f))) = ⊥
 SampledIs xs n x ys m (Some (Err NoRow)) = (length xs ≤ n) × FirstIs sameRow xs n x None × (ys ≡ xs) × (m ≡ n)
 SampledIs xs n x ys m (Some (Err LastTick)) = ⊥
 SampledIs xs n x ys m (Some (Err (Works a))) = ⊥
+SampledIs xs n x ys m (Some (Err Absent)) = ⊥
 
 -- standstill first, then the sample, if it is due
 pub record Judged (actors channels : ℕ) (s : State) (due : Bool) (t : ℕ) (xs : List Sample) (n : ℕ) (ys : List Sample) (m : ℕ) (r : Option (Result Rate Fault)) : Type 0 where

@@ -1,7 +1,7 @@
 ghost use mathlib.Core.Path.{_≡_};
 ghost use Rattle.bench.specs.Faults.{layerOf, numberOf, placeOf};
 
-// Why a run has no rate to tell.
+// Why a bench or rate has no answer to give.
 #[derive(Clone, Copy)]
 pub enum Fault {
     // Works differ from times, or in number, with the lowest actor concerned.
@@ -10,6 +10,8 @@ pub enum Fault {
     NoRow,
     // The last tick is done.
     LastTick,
+    // No such actor or channel.
+    Absent,
 }
 
 impl Fault {
@@ -21,6 +23,7 @@ impl Fault {
             Fault::Works(_) => "bench",
             Fault::NoRow => "bench",
             Fault::LastTick => "bench",
+            Fault::Absent => "bench",
         }
     }
 
@@ -32,6 +35,7 @@ impl Fault {
             Fault::Works(_) => 16,
             Fault::NoRow => 17,
             Fault::LastTick => 18,
+            Fault::Absent => 19,
         }
     }
 
@@ -43,6 +47,7 @@ impl Fault {
             Fault::Works(actor) => actor,
             Fault::NoRow => 0,
             Fault::LastTick => 0,
+            Fault::Absent => 0,
         }
     }
 }

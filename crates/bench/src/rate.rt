@@ -152,7 +152,7 @@ pub fn rate_with(graph: &Graph, times: &[u16; 16], rows: &mut [Sample]) -> Resul
     )
 }
 
-// The graph's times, by actor, then zeros.
+// The graph's times, then zeros.
 pub fn times(graph: &Graph) -> [u16; 16]
     ensures { λ r. ⌜ ((a : ℕ) → at r a ≡ timesOf (now (graph .entry)) a) ⌝ }
 {

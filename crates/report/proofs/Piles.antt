@@ -44,22 +44,20 @@ wide-when false w = refl
 shown-fits : (l x : ℕ) → l ≤ 65535 → shown l x ≡ x
 shown-fits l x h = grind (arith, tells)
 
-module _ (g : Graph) (times : List ℕ) (same : (a : ℕ) → at times a ≡ timesOf g a) (long : length times ≡ 16) where
+-- works that are the first of these times
+module _ (g : Graph) (times works : List ℕ) (same : (a : ℕ) → at times a ≡ timesOf g a) (long : length times ≡ 16) (front : works ≡ take (length (actorsIn g)) times) where
   abbrev n : ℕ
   n = length (actorsIn g)
-
-  abbrev works : List ℕ
-  works = take n times
 
   few : (1 ≤ n) × (n ≤ 16)
   few = (omega (arith, actors-are g, g .few), omega (arith, actors-are g, g .few))
 
   works-many : length works ≡ n
-  works-many = length-take-le n times (omega (arith, few, long))
+  works-many = rw front (length-take-le n times (omega (arith, few, long)))
 
   works-are : (a : ℕ) → getD works a 0 ≡ timesOf g a
   works-are a =
-      ⊎-elim (λ (h : a < n). getD-take n times a 0 h ∙ same a)
+      ⊎-elim (λ (h : a < n). rw front (getD-take n times a 0 h ∙ same a))
       (λ h. getD-past works a 0 (omega (arith, works-many)) ∙ sym (ap (λ (u : Actor). u .time) (getD-past (actorsIn g) a nobody h)))
       (cases-lt a n)
 

@@ -1,13 +1,16 @@
 -- What is reported of a file, and how it is printed. Assumes nothing.
 --
--- answerOf  rate's answer as the report has it
--- rateIn    what rate answers of a graph's unhindered run, with 256 rows
--- together  the sum of so many numbers of a table
--- promised  the promise of each actor in a slice of 2 in 5 over a ring of all
--- heldIn    what rate answers of the run with those promises; refused where they are over 65,535
--- ReportIs  the report on a file
--- told      an answer as it is printed
--- shownOf   a report as it is printed
+-- kept        an answer with a fault of the bench kept whole
+-- rated       what rate answers of a graph's run with a table of times, with 256 rows
+-- rateIn      of the unhindered run
+-- together    the sum of so many numbers of a table
+-- promised    the promise of every actor in a slice of 2 in 5 over a ring of all
+-- promisedTo  the same as a table
+-- heldIn      what rate answers of the run with those promises; refused where they are over 65,535
+-- AcceptedIs  what reading the file answers
+-- ReportIs    the report on a file
+-- printed     an answer as it is printed
+-- shownOf     a report as it is printed
 use mathlib.Core.List.{List, _++_}
 use mathlib.Core.Path.{_≡_}
 use mathlib.Core.Bool.{cond}
@@ -15,22 +18,20 @@ use Prim.Native.Nat.{ℕ, zero, suc, _+_}
 use lib.Dec.{ltb, leb}
 use lib.Chars.{codes}
 use Rattle.std.specs.Written.{decimal}
-use Rattle.std.specs.declared.option.Option.{Option}
-use Rattle.std.specs.declared.option.Option.the-variants.{Some, None}
 use Rattle.std.specs.declared.result.Result.{Result}
 use Rattle.std.specs.declared.result.Result.the-variants.{Ok, Err}
 use Rattle.model.specs.Net.{when}
-use Rattle.model.specs.Rate.{Answer, standstill, repeats, no-row, late, rate-of}
+use Rattle.model.specs.Rate.{rate-of}
 use Rattle.graph.specs.File.{fileOf}
 use Rattle.graph.specs.Meaning.{ReadBy}
 use Rattle.graph.specs.declared.graph.Graph.{Graph as Accepted}
 use Rattle.policy.specs.Wheel.{wide}
 use Rattle.policy.specs.declared.fault.Fault.the-variants.{Promise}
-use Rattle.bench.specs.Rates.{lastTick}
+use Rattle.bench.specs.Rates.{told, lastTick}
 use Rattle.bench.specs.Seen.{net, timesOf, repsOf}
 use Rattle.bench.specs.declared.rate.Rate.{Rate}
 use Rattle.bench.specs.declared.rate.Rate.the-variants.{Repeats, Standstill}
-use Rattle.bench.specs.declared.fault.Fault.the-variants.{NoRow, LastTick}
+use Rattle.bench.specs.declared.fault.Fault.{Fault as BenchFault}
 use Rattle.report.specs.Faults.{layerOf, numberOf, placeOf}
 use Rattle.report.specs.declared.fault.Fault.{Fault}
 use Rattle.report.specs.declared.fault.Fault.the-variants.{Graph, Policy, Bench}
@@ -38,14 +39,15 @@ use Rattle.report.specs.declared.line.Report.{Report}
 use Rattle.report.specs.declared.line.Report.the-variants.{Rated, Refused}
 use Rattle.report.specs.declared.line.Told.{Told}
 
-abbrev pub answerOf : Answer → Result Rate Fault
-answerOf (standstill f) = Ok (Standstill f)
-answerOf (repeats f d m) = Ok (Repeats f d m)
-answerOf no-row = Err (Bench NoRow)
-answerOf late = Err (Bench LastTick)
+abbrev pub kept : Result Rate BenchFault → Result Rate Fault
+kept (Ok r) = Ok r
+kept (Err e) = Err (Bench e)
 
-abbrev pub rateIn : Accepted → Answer
-rateIn g = rate-of (net g) (timesOf g) (repsOf g 0) 256 lastTick .answer
+abbrev pub rated : Accepted → (ℕ → ℕ) → Result Rate Fault
+rated g time = kept (told (rate-of (net g) time (repsOf g 0) 256 lastTick .answer))
+
+abbrev pub rateIn : Accepted → Result Rate Fault
+rateIn g = rated g (timesOf g)
 
 abbrev pub together : (ℕ → ℕ) → ℕ → ℕ
 together f zero = 0
@@ -58,21 +60,24 @@ abbrev pub promisedTo : Accepted → ℕ → ℕ
 promisedTo g a = when (ltb a (net g .actors)) (promised g)
 
 abbrev pub heldIn : Accepted → Result Rate Fault
-heldIn g =
-    cond (leb (promised g) 65535) (answerOf (rate-of (net g) (promisedTo g) (repsOf g 0) 256 lastTick .answer)) (Err (Policy (Promise 0)))
+heldIn g = cond (leb (promised g) 65535) (rated g (promisedTo g)) (Err (Policy (Promise 0)))
+
+abbrev pub AcceptedIs : List ℕ → Result Accepted Fault → Type 0
+AcceptedIs xs (Ok g) = ReadBy (fileOf xs) (Ok g)
+AcceptedIs xs (Err (Graph e)) = ReadBy (fileOf xs) (Err e)
+AcceptedIs xs (Err (Policy e)) = ⊥
+AcceptedIs xs (Err (Bench e)) = ⊥
 
 -- both rates of the graph that the bytes are the file of, or the refusal of the file
 abbrev pub ReportIs : List ℕ → Report → Type 0
-ReportIs xs (Rated t h) = (g : Accepted) × ReadBy (fileOf xs) (Ok g) × (t .answer ≡ answerOf (rateIn g)) × (h .answer ≡ heldIn g)
-ReportIs xs (Refused (Graph e)) = ReadBy (fileOf xs) (Err e)
-ReportIs xs (Refused (Policy e)) = ⊥
-ReportIs xs (Refused (Bench e)) = ⊥
+ReportIs xs (Rated t h) = (g : Accepted) × AcceptedIs xs (Ok g) × (t .answer ≡ rateIn g) × (h .answer ≡ heldIn g)
+ReportIs xs (Refused f) = AcceptedIs xs (Err f)
 
-abbrev pub told : Result Rate Fault → List ℕ
-told (Ok (Repeats f d m)) = decimal f ++ (codes " " ++ (decimal d ++ (codes " " ++ decimal m)))
-told (Ok (Standstill f)) = codes "stop " ++ decimal f
-told (Err e) = codes "none " ++ decimal (numberOf e)
+abbrev pub printed : Result Rate Fault → List ℕ
+printed (Ok (Repeats f d m)) = decimal f ++ (codes " " ++ (decimal d ++ (codes " " ++ decimal m)))
+printed (Ok (Standstill f)) = codes "stop " ++ decimal f
+printed (Err e) = codes "none " ++ decimal (numberOf e)
 
 abbrev pub shownOf : Report → List ℕ
-shownOf (Rated t h) = codes "RATE " ++ (told (t .answer) ++ (codes "\nHELD " ++ told (h .answer)))
+shownOf (Rated t h) = codes "RATE " ++ (printed (t .answer) ++ (codes "\nHELD " ++ printed (h .answer)))
 shownOf (Refused f) = codes "FAULT " ++ (layerOf f ++ (codes " " ++ (decimal (numberOf f) ++ (codes " " ++ decimal (placeOf f)))))

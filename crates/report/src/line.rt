@@ -1,14 +1,14 @@
 ghost use mathlib.Core.Path.{_≡_};
 ghost use lib.ListN.{length};
 ghost use Rattle.std.specs.declared.option.Option.the-variants.{Some};
-ghost use Rattle.report.specs.Lines.{answerOf, rateIn, heldIn, ReportIs, told, shownOf};
+ghost use Rattle.report.specs.Lines.{kept, rateIn, heldIn, AcceptedIs, ReportIs, printed, shownOf};
 use crate::fault::Fault;
 use crate::fault::FaultFromBench;
-use crate::fault::FaultFromPolicy;
+use crate::fault::FaultFromGraph;
 use crate::pile::pile;
 use bench::Rate;
 use bench::Sample;
-use bench::promised_rate;
+use bench::follow;
 use bench::unhindered_rate;
 use graph::Graph;
 use policy::RingPolicy;
@@ -39,23 +39,48 @@ fn rows() -> [Sample; ROWS]
     [Sample::BLANK; ROWS]
 }
 
-// The rate of the unhindered run.
-fn rate(graph: &Graph) -> Result<Rate, Fault>
-    ensures { λ r. ⌜ r ≡ answerOf (rateIn (now (graph .entry))) ⌝ }
+// The answer, with a fault of the bench kept whole.
+fn keep(answer: Result<Rate, bench::Fault>) -> Result<Rate, Fault>
+    ensures { λ r. ⌜ r ≡ kept answer ⌝ }
 {
-    let mut rows = rows();
-    let rate = unhindered_rate(graph, &mut rows)?;
+    let rate = answer?;
     Ok(rate)
 }
 
-// The rate of the run that a slice of 2 in 5 over a ring of all actors promises.
-fn held(graph: &Graph) -> Result<Rate, Fault>
-    ensures { λ r. ⌜ r ≡ heldIn (now (graph .entry)) ⌝ }
+// The graph that the bytes are the file of.
+fn accepted(bytes: &[u8]) -> Result<Graph, Fault>
+    ensures { λ r. ⌜ AcceptedIs (now (bytes .entry)) r ⌝ }
 {
-    let mut rows = rows();
-    let pile = pile(graph)?;
-    let rate = promised_rate(graph, &pile, &mut rows)?;
-    Ok(rate)
+    let graph = Graph::read(bytes)?;
+    Ok(graph)
+}
+
+// The rates of a graph: unhindered, and as its actors are promised on a shared card.
+fn rated(graph: &Graph) -> (Told, Told)
+    ensures rate { λ r. ⌜ r .0 .answer ≡ rateIn (now (graph .entry)) ⌝ }
+    ensures held { λ r. ⌜ r .1 .answer ≡ heldIn (now (graph .entry)) ⌝ }
+{
+    let mut rate_rows = rows();
+    match pile(graph) {
+        Ok(pile) => {
+            let mut held_rows = rows();
+            let both = follow(graph, pile, &[], &mut [], &mut rate_rows, &mut held_rows);
+            let rate = Told {
+                answer: keep(both.unhindered),
+            };
+            let held = Told {
+                answer: keep(both.promised),
+            };
+            (rate, held)
+        }
+        Err(fault) => {
+            let rate = Told {
+                answer: keep(unhindered_rate(graph, &mut rate_rows)),
+            };
+            let held = Told { answer: Err(fault) };
+            (rate, held)
+        }
+    }
 }
 
 impl Report {
@@ -63,23 +88,18 @@ impl Report {
     pub fn of(bytes: &[u8]) -> Report
         ensures { λ r. ⌜ ReportIs (now (bytes .entry)) r ⌝ }
     {
-        match Graph::read(bytes) {
+        match accepted(bytes) {
             Ok(graph) => {
-                let rate = Told {
-                    answer: rate(&graph),
-                };
-                let held = Told {
-                    answer: held(&graph),
-                };
+                let (rate, held) = rated(&graph);
                 Report::Rated(rate, held)
             }
-            Err(e) => Report::Refused(Fault::Graph(e)),
+            Err(fault) => Report::Refused(fault),
         }
     }
 }
 
 pub impl fmt::Display for Told as ToldDisplay {
-    ghost shown = { λ t. Some (told (t .answer)) };
+    ghost shown = { λ t. Some (printed (t .answer)) };
 
     fn fmt<W: fmt::Write>(&self, f: &mut fmt::Formatter<W>) -> fmt::Result {
         match self.answer {

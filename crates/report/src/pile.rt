@@ -1,7 +1,8 @@
 ghost use Rattle.report.specs.Piles.{PileIs};
+use crate::fault::Fault;
+use crate::fault::FaultFromPolicy;
 use bench::times;
 use graph::Graph;
-use policy::Fault;
 use policy::Ring;
 use policy::RingPolicy;
 use policy::Slice;
@@ -10,8 +11,8 @@ use policy::Slice;
 pub fn pile(graph: &Graph) -> Result<Slice<Ring>, Fault>
     ensures { λ r. ⌜ PileIs (now (graph .entry)) r ⌝ }
 {
-    let times = times(graph);
-    let ring = Ring::new(&times[0..graph.actors().len()]);
+    let works = times(graph);
+    let ring = Ring::new(&works[0..graph.actors().len()]);
     Slice::check(&ring, 5, 2)?;
     Ok(Slice::new(ring, 5, 2))
 }
