@@ -12,3 +12,4 @@ pub mod Shared
 pub mod Answered
 pub mod Performs
 pub mod Stories
+pub mod Pins

@@ -10,3 +10,4 @@ pub mod Sharing
 pub mod Story
 pub mod Calls
 pub mod Rated
+pub mod Guarantee

@@ -2,11 +2,10 @@
 ghost use mathlib.Core.Path.{_≡_};
 ghost use Prim.Native.Nat.{ℕ, _<_, _≤_, min};
 ghost use lib.ListN.{length, getD};
+ghost use Rattle.bench.specs.Agree.{Agreed};
 ghost use Rattle.bench.specs.Calls.{look, graphOf, PerformIs};
-ghost use Rattle.bench.specs.Rated.{RunRated, PromisedRated};
-ghost use Rattle.bench.specs.Rates.{Unbeaten};
+ghost use Rattle.bench.specs.Guarantee.{made, Guaranteed, Pinned};
 ghost use Rattle.bench.specs.Seen.{net, timesOf};
-ghost use Rattle.bench.specs.Story.{Followed};
 use crate::bench::Bench;
 use crate::call::Answer;
 use crate::call::Call;
@@ -15,6 +14,7 @@ use crate::rate::unhindered_rate;
 use crate::report::Report;
 use crate::sample::Sample;
 use graph::Graph;
+use policy::Exact;
 use policy::Policy;
 
 impl<'g, P: Policy> Bench<'g, P> {
@@ -63,11 +63,7 @@ pub fn follow<'g, P: Policy>(
     rows: &mut [Sample],
     held_rows: &mut [Sample],
 ) -> Report<'g, P>
-    ensures calls { λ r. ⌜ Followed P·Policy (net (now (graph .entry))) (timesOf (now (graph .entry))) policy (now (calls .entry)) (now (answers .entry)) (now (answers .exit)) (min (length (now (calls .entry))) (length (now (answers .entry)))) (look (r .bench)) ⌝ }
-    ensures same { λ r. ⌜ graphOf (r .bench) ≡ now (graph .entry) ⌝ }
-    ensures unhindered { λ r. ⌜ RunRated (now (graph .entry)) (timesOf (now (graph .entry))) (now (rows .entry)) (now (rows .exit)) (r .unhindered) ⌝ }
-    ensures promised { λ r. ⌜ PromisedRated (now (graph .entry)) (P·Policy .view policy) (now («held_rows» .entry)) (now («held_rows» .exit)) (r .promised) ⌝ }
-    ensures fastest { λ _. ⌜ Unbeaten (now (graph .entry)) ⌝ }
+    ensures { λ r. ⌜ Guaranteed P·Policy (now (graph .entry)) policy (now (calls .entry)) (now (answers .entry)) (now (answers .exit)) (now (rows .entry)) (now (rows .exit)) (now («held_rows» .entry)) (now («held_rows» .exit)) r ⌝ }
 {
     let unhindered = unhindered_rate(graph, rows);
     let promised = promised_rate(graph, &policy, held_rows);
@@ -81,4 +77,19 @@ pub fn follow<'g, P: Policy>(
         unhindered,
         promised,
     }
+}
+
+// The same with a policy of which each call has one outcome: there are no other answers.
+pub fn follow_exact<'g, P: Exact>(
+    graph: &'g Graph,
+    policy: P,
+    calls: &[Call],
+    answers: &mut [Answer],
+    rows: &mut [Sample],
+    held_rows: &mut [Sample],
+) -> Report<'g, P>
+    ensures guaranteed { λ r. ⌜ Guaranteed P·Policy (now (graph .entry)) policy (now (calls .entry)) (now (answers .entry)) (now (answers .exit)) (now (rows .entry)) (now (rows .exit)) (now («held_rows» .entry)) (now («held_rows» .exit)) r ⌝ }
+    ensures pinned { λ _. ⌜ (Agreed (net (now (graph .entry))) (timesOf (now (graph .entry))) (P·Policy .view policy) → Pinned P·Policy (P·Exact .like) (now (graph .entry)) policy (now (calls .entry)) (now (answers .exit)) (made (now (calls .entry)) (now (answers .entry)))) ⌝ }
+{
+    follow(graph, policy, calls, answers, rows, held_rows)
 }

@@ -20,6 +20,7 @@ pub use call::Answer;
 pub use call::Call;
 pub use fault::Fault;
 pub use following::follow;
+pub use following::follow_exact;
 pub use promised::promised_rate;
 pub use rate::LAST_TICK;
 pub use rate::Rate;

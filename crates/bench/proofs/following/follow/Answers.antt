@@ -53,11 +53,11 @@ returns g c =
     let rate = c .unhindered-rate-unhindered .ensures in
     let made : c .loop-i .i ≡ min (length (c .args .calls .now)) (length (c .args .answers .now)) = omega (arith, c .lesser-n .ensures) in
     record {
-      calls = subst (λ (k : ℕ). Followed m (net gr) (timesOf gr) p (c .args .calls .now) (c .args .answers .now) (c .loop-i .answers) k (look (c .loop-i .bench))) made
+      story = subst (λ (k : ℕ). Followed m (net gr) (timesOf gr) p (c .args .calls .now) (c .args .answers .now) (c .loop-i .answers) k (look (c .loop-i .bench))) made
           (story-ends m (record { sound = met .sound; ticked = met .ticked; laid = met .laid; cleared = met .cleared })
           (net gr) (graph-fitting gr .sound) (timesOf gr) (graph-timed gr) p (c .args .calls .now) (c .join-bench .result .refused) (c .args .answers .now) (c .loop-i .answers) (c .loop-i .i) (look (c .loop-i .bench))
           (join .refused) (c .loop-i .inv .2 p (join .refused) (join .after)) (c .loop-i .inv .3));
-      same = c .loop-i .inv .0;
+      graph = c .loop-i .inv .0;
       unhindered = record { value = record { value = rate .value; after = rate .after; rising = rate .rising }; means = rate .means };
       promised = c .promised-rate-promised .ensures;
       fastest = rate .fastest;
