@@ -3,7 +3,7 @@ use mathlib.Core.Path.{_≡_, refl, sym, ap, ap₂, subst, _∙_}
 use mathlib.Core.Bool.{Bool, true, false, not, _&&_}
 use mathlib.Core.List.{List, [], _∷_, _++_}
 use mathlib.Core.Logic.{_⊎_, inl, inr}
-use Prim.Native.Nat.{ℕ, _+_, _-_, _%_, _^_, _≤_, _<_}
+use Prim.Native.Nat.{ℕ, _+_, _-_, _%_, _≤_, _<_}
 use native.Mathlib.Omega.{arith}
 use native.Mathlib.Numerals.{add-one}
 use lib.Dec.{ltb, eqb}
@@ -15,10 +15,9 @@ use Rattle.std.specs.declared.result.Result.the-variants.{Ok, Err}
 use Rattle.std.proofs.shelf.Lists.{length-push}
 use Rattle.std.proofs.shelf.Tests.{cases-bool}
 use Rattle.std.proofs.shelf.Ways.{tells}
-use Rattle.table.specs.Find.{FirstIs}
-use Rattle.model.specs.Net.{Net, State, Sound, Timed, when, every, busy, ends, fallen, next, run}
+use Rattle.model.specs.Net.{Net, State, when, every, busy, ends, fallen, run}
 use Rattle.model.specs.Likeness.{Matches}
-use Rattle.model.specs.Rate.{Answer, standstill, repeats, no-row, late, Outcome, on, takes-row, answers, still, sample-due, says, rated, rate-of}
+use Rattle.model.specs.Rate.{Answer, standstill, repeats, no-row, late, on, takes-row, answers, still, sample-due, says, rated, rate-of}
 use Rattle.model.proofs.Every.{every-same}
 use Rattle.model.proofs.Verdicts.{same-at, says-standstill, says-on, says-repeats, says-takes-row, says-no-row, due-later}
 use Rattle.model.proofs.Steps.{step-first, step-on, step-takes-row, step-last, step-last-row, rated-answers}
@@ -27,7 +26,7 @@ use Rattle.bench.specs.declared.fault.Fault.the-variants.{Works, NoRow, LastTi
 use Rattle.bench.specs.declared.rate.Rate.{Rate}
 use Rattle.bench.specs.declared.rate.Rate.the-variants.{Repeats, Standstill}
 use Rattle.bench.specs.declared.sample.Sample.{Sample}
-use Rattle.bench.specs.Rows.{sameRow, Rising, Upto, rowOf, rowAt, leaves}
+use Rattle.bench.specs.Rows.{sameRow, Rising, Upto, rowOf, leaves}
 use Rattle.bench.specs.Rates.{lastTick, told, Rated, SampledIs, Judged}
 use Rattle.bench.proofs.Rowed.{same-row, row-is, length-leaves, taken-row, leaves-more, tops-more}
 

@@ -5,7 +5,7 @@ use mathlib.Core.Logic.{∥∥₁-map, inl, inr}
 use Prim.Native.Nat.{ℕ, _*_, _≤_, _<_}
 use native.Mathlib.Omega.{arith}
 use lib.Dec.{ltb}
-use lib.ListN.{length, getD, take}
+use lib.ListN.{length, getD}
 use Rattle.std.proofs.shelf.Lists.{getD-take, getD-past}
 use Rattle.std.proofs.shelf.Tests.{cases-lt, lt-ltb, le-ltb}
 use Rattle.std.proofs.shelf.Ways.{tells}
@@ -13,11 +13,11 @@ use Rattle.graph.specs.declared.actor.Actor.{Actor}
 use Rattle.graph.specs.declared.channel.Channel.{Channel}
 use Rattle.graph.specs.declared.graph.Graph.{Graph}
 use Rattle.graph.specs.Channels.{blank}
-use Rattle.graph.specs.Rules.{nobody, ended, limited, timed}
-use Rattle.graph.specs.Meaning.{actorsIn, channelsIn, countsIn}
+use Rattle.graph.specs.Rules.{nobody, limited, timed}
+use Rattle.graph.specs.Meaning.{actorsIn, channelsIn}
 use Rattle.graph.specs.Piece.{Way, start, along, back}
 use Rattle.graph.proofs.Graphs.{actors-are, channels-are}
-use Rattle.model.specs.Net.{Sound, Timed, when}
+use Rattle.model.specs.Net.{Timed, when}
 use Rattle.model.specs.Meaning.{Joined, first, along as on, back as off, Accepted}
 use Rattle.bench.specs.Seen.{netOf, net, at, timesOf, repsOf}
 use Rattle.model.proofs.Schedules.{no-faster}

@@ -1,23 +1,16 @@
 -- Lists made of a table's first numbers and zeros. Assumes nothing.
-use mathlib.Core.Path.{_≡_, refl, sym, ap, ap₂, _∙_}
-use mathlib.Core.Bool.{Bool, true, false, _&&_}
+use mathlib.Core.Path.{_≡_, sym, ap, _∙_}
 use mathlib.Core.List.{List}
-use mathlib.Core.Logic.{_≢_, inl, inr}
-use Prim.Native.Nat.{ℕ, _+_, _≤_, _<_}
+use mathlib.Core.Logic.{inl, inr}
+use Prim.Native.Nat.{ℕ, _<_}
 use native.Mathlib.Omega.{arith}
-use native.Mathlib.Numerals.{add-one}
-use lib.Dec.{ltb, eqb}
-use lib.ListN.{length, getD, set, length-set, replicate}
-use lib.Seq.{getD-set-same, getD-set-other}
-use Rattle.std.specs.Orderings.{Decides}
-use Rattle.std.specs.shelf.Text.{sameBytes}
+use lib.Dec.{ltb}
+use lib.ListN.{length, replicate}
 use Rattle.std.proofs.shelf.Counted.{fill-by-all, length-map-counting, getD-map-counting}
-use Rattle.std.proofs.shelf.Equals.{sameBytes-decides}
 use Rattle.std.proofs.shelf.Lists.{getD-replicate, getD-past, length-replicate, ext-getD}
-use Rattle.std.proofs.shelf.Tests.{cases-lt, cases-eq, lt-ltb, le-ltb, eqb-true, eq-eqb}
-use Rattle.std.proofs.shelf.Ways.{tells, same-from-decides}
-use Rattle.model.specs.Net.{State, when, every}
-use Rattle.model.proofs.Every.{every-true, every-from}
+use Rattle.std.proofs.shelf.Tests.{cases-lt, le-ltb}
+use Rattle.std.proofs.shelf.Ways.{tells}
+use Rattle.model.specs.Net.{when}
 use Rattle.bench.specs.Seen.{at}
 use Rattle.bench.specs.Rows.{listed}
 
@@ -40,13 +33,6 @@ module _ (size k : ℕ) where
     where
       shown : (i : ℕ) → when (ltb i k) (f i) ≡ when (ltb i k) (g i)
       shown i = elim (cases-lt i k) [ inl lt ↦ ap (λ x. when (ltb i k) x) (h i lt) | inr ge ↦ let off = le-ltb i k ge in ap (λ b. when b (f i)) off ∙ sym (ap (λ b. when b (g i)) off) ]
-
--- one more number listed
-pub listed-more : (xs : List ℕ) (f : ℕ → ℕ) (i x : ℕ) → i < length xs → x ≡ f i → ((k : ℕ) → at xs k ≡ when (ltb k i) (f k)) → (k : ℕ) → at (set xs i x) k ≡ when (ltb k (i + 1)) (f k)
-listed-more xs f i x lt e h k = elim (cases-eq k i) [
-  | inl is ↦ rw is (getD-set-same xs i x 0 lt ∙ (e ∙ grind (arith, tells)))
-  | inr ne ↦ getD-set-other xs i k x 0 ne ∙ (h k ∙ grind (arith, tells))
-]
 
 -- zeros list no number
 pub none-listed : (size : ℕ) (f : ℕ → ℕ) (k : ℕ) → at (replicate size 0) k ≡ when (ltb k 0) (f k)

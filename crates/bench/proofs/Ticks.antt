@@ -1,15 +1,15 @@
 -- What the loops of a tick come to. Assumes nothing.
 use mathlib.Core.Path.{_≡_, refl, sym, ap, ap₂, _∙_}
-use mathlib.Core.Bool.{Bool, true, false, cond, _&&_}
+use mathlib.Core.Bool.{Bool, cond, _&&_}
 use mathlib.Core.List.{List}
 use Prim.Native.Nat.{ℕ, _+_, _-_, _≤_, _<_}
 use native.Mathlib.Omega.{arith}
-use lib.Dec.{ltb, eqb}
+use lib.Dec.{eqb}
 use lib.ListN.{length}
 use Rattle.std.proofs.shelf.Ways.{tells}
 use Rattle.graph.specs.declared.channel.Channel.{Channel}
-use Rattle.model.specs.Net.{Net, State, Timed, when, busy, ready, start, ends, finish, tick, initial-state, fallen, next, run}
-use Rattle.model.specs.Likeness.{Alike, Matches}
+use Rattle.model.specs.Net.{Net, State, Timed, when, busy, start, ends, finish, tick, fallen, next, run}
+use Rattle.model.specs.Likeness.{Matches}
 use Rattle.model.proofs.Balance.{run-balanced, capacity-whole}
 use Rattle.model.proofs.Ready.{has-tokens, has-places}
 use Rattle.model.proofs.Runs.{run-few}
@@ -17,7 +17,7 @@ use Rattle.model.proofs.Alikes.{alike-trans, start-alike, first-matches, tick-m
 use Rattle.bench.specs.declared.run.Run.{Run}
 use Rattle.bench.specs.Firings.{lefts}
 use Rattle.bench.specs.Seen.{netOf, at, state, taken}
-use Rattle.bench.specs.Loops.{flag, Bounded, Fitting, Roomy, Countable, Marked, Takes, Taken, Begun, Filled, Rested, Fallen, Tallied, Given}
+use Rattle.bench.specs.Loops.{Bounded, Fitting, Roomy, Countable, Marked, Takes, Taken, Begun, Filled, Rested, Fallen, Tallied, Given}
 
 -- the firings of a run take the ticks that fall
 pub taken-falls : (s : State) (a : ℕ) → taken s (fallen s) a ≡ fallen s a

@@ -3,8 +3,8 @@
 -- flag       a mark of a table of marks
 -- Bounded    channels that the arrays have room for
 -- Fitting    a sound graph that they have room for
--- Roomy      tokens and free places are capacities at most
--- Countable  each count has room for one more
+-- Roomy      tokens and free places are 4,096 at most
+-- Countable  each count can rise by one
 -- Withheld   a channel's tokens and free places have struck out the actors at its ends that they hinder
 -- Marked     the marks are those of the idle actors that no channel hinders
 -- Takes      the marked actors find what they take
@@ -19,7 +19,7 @@ use mathlib.Core.Path.{_≡_}
 use mathlib.Core.Bool.{Bool, true, false, cond, not, _&&_, _||_}
 use mathlib.Core.List.{List}
 use Prim.Native.Nat.{ℕ, _+_, _-_, _^_, _<_, _≤_}
-use lib.Dec.{leb, ltb, eqb}
+use lib.Dec.{leb, eqb}
 use lib.ListN.{length, getD}
 use Rattle.model.specs.Net.{Sound, when, busy, every, lets}
 use Rattle.graph.specs.declared.channel.Channel.{Channel}

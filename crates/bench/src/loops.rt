@@ -1,13 +1,11 @@
 // The loops of a tick, over the arrays of a run.
 ghost use mathlib.Core.Path.{_≡_};
 ghost use mathlib.Core.Bool.{not};
-ghost use Prim.Native.Nat.{ℕ, _-_, _<_, _≤_};
+ghost use Prim.Native.Nat.{ℕ, _<_, _≤_};
 ghost use lib.ListN.{length};
-ghost use Rattle.graph.specs.Channels.{Every, Ends, blank};
-ghost use Rattle.graph.specs.Rules.{limited};
+ghost use Rattle.graph.specs.Channels.{Every, Ends};
 ghost use Rattle.model.specs.Net.{busy};
-ghost use Rattle.bench.specs.Firings.{lefts};
-ghost use Rattle.bench.specs.Seen.{at, state};
+ghost use Rattle.bench.specs.Seen.{state};
 ghost use Rattle.bench.specs.Loops.{flag, Bounded, Roomy, Countable, Withheld, Marked, Takes, Taken, Begun, Fallen, Tallied, Given, Filled, Rested};
 use crate::firing::Event;
 use crate::firing::Firing;

@@ -1,7 +1,7 @@
 // Rate: from when on a run repeats, how often and how much, or when it comes to a standstill.
 ghost use mathlib.Core.Path.{_≡_};
 ghost use mathlib.Core.Bool.{_&&_};
-ghost use Prim.Native.Nat.{ℕ, _+_, _%_, _<_, _≤_};
+ghost use Prim.Native.Nat.{ℕ, _%_, _<_, _≤_};
 ghost use lib.Dec.{eqb};
 ghost use lib.ListN.{length, getD};
 ghost use denote.Ref.{name};
@@ -38,11 +38,11 @@ pub enum Rate {
 }
 
 // The tick of a row taken.
-fn row_tick(table: &Table<'_, Sample>, at: usize) -> u32
-    requires { ⌜ at < now table .used ⌝ }
-    ensures { λ t. ⌜ ((d : Row) → t ≡ getD (now (now (table .entry) .rows)) at d .tick) ⌝ }
+fn row_tick(table: &Table<'_, Sample>, r: usize) -> u32
+    requires { ⌜ r < now table .used ⌝ }
+    ensures { λ t. ⌜ ((d : Row) → t ≡ getD (now (now (table .entry) .rows)) r d .tick) ⌝ }
 {
-    match table.row(at) {
+    match table.row(r) {
         Some(row) => row.tick,
         None => unreachable(),
     }

@@ -1,7 +1,7 @@
 // Taking the sample of a run.
 ghost use mathlib.Core.Path.{_≡_};
 ghost use mathlib.Core.Bool.{not};
-ghost use Prim.Native.Nat.{ℕ, _≤_};
+ghost use Prim.Native.Nat.{_≤_};
 ghost use Rattle.model.specs.Net.{every, busy};
 ghost use Rattle.bench.specs.Firings.{lefts};
 ghost use Rattle.bench.specs.Seen.{at, state};

@@ -4,25 +4,30 @@ ghost use mathlib.Core.Bool.{true, false, _&&_};
 ghost use Prim.Native.Nat.{ℕ, _<_, _≤_};
 ghost use lib.Dec.{ltb, eqb};
 ghost use lib.ListN.{length};
+ghost use Rattle.model.specs.Likeness.{Matches};
+ghost use Rattle.model.specs.Net.{run as runAt};
 ghost use Rattle.bench.specs.Firings.{leftOf};
-ghost use Rattle.bench.specs.Loops.{flag, Countable};
+ghost use Rattle.bench.specs.Loops.{flag, Fitting, Countable};
 ghost use Rattle.bench.specs.Places.{Whole};
-ghost use Rattle.bench.specs.Seen.{net, at, timesOf, state, taken};
+ghost use Rattle.bench.specs.Seen.{netOf, net, at, timesOf, state, taken};
 ghost use Rattle.bench.specs.Sharing.{Asked, Lays, newly, many, stand, Begins, Stepped};
 use crate::firing::Firing;
 use crate::rate::times;
 use crate::run::Run;
 use crate::steps::reset;
 use crate::steps::step;
+use graph::Channel;
 use graph::Graph;
 use policy::Policy;
 
-// The ticks left that the policy has, of the firings under way.
-fn left_with<P: Policy>(actors: usize, policy: &P, run: &Run) -> [u16; 16]
+// Serves the policy once; the ticks left that it then has, of the firings under way.
+fn serve_and_take<P: Policy>(actors: usize, policy: &mut P, run: &Run) -> [u16; 16]
     requires { ⌜ actors ≤ 16 ⌝ }
+    ensures serves { λ _. ⌜ P·Policy .ticks (now (policy .entry)) (now (policy .exit)) ⌝ }
     ensures size { λ r. ⌜ length r ≡ 16 ⌝ }
-    ensures value { λ r. ⌜ ((a : ℕ) → a < actors → at r a ≡ taken (state (now (run .entry))) (P·Policy .view (now (policy .entry)) .left) a) ⌝ }
+    ensures value { λ r. ⌜ ((a : ℕ) → a < actors → at r a ≡ taken (state (now (run .entry))) (P·Policy .view (now (policy .exit)) .left) a) ⌝ }
 {
+    policy.serve();
     let mut left = [0; 16];
     for a in 0..actors {
         if run.firings[a].left() > 0 {
@@ -74,14 +79,29 @@ fn marked(actors: usize, marks: &[bool; 16]) -> u8
     n
 }
 
+// Clears the policy; the run as tick 0 leaves it.
+fn clear_and_reset<P: Policy>(
+    actors: usize,
+    channels: &[Channel],
+    times: &[u16; 16],
+    policy: &mut P,
+    run: &mut Run,
+)
+    requires { ⌜ Fitting actors (now channels) ⌝ }
+    ensures clears { λ _. ⌜ P·Policy .clears (now (policy .entry)) (now (policy .exit)) ⌝ }
+    ensures after { λ _. ⌜ Matches (netOf actors (now (channels .entry))) (state (now (run .exit))) (runAt (netOf actors (now (channels .entry))) (at (now (times .entry))) 0) ⌝ }
+{
+    policy.clear();
+    reset(actors, channels, times, run);
+}
+
 // Tick 0: the policy is cleared, and every ready actor starts and lays.
 pub fn tick_zero<P: Policy>(graph: &Graph, policy: &mut P, run: &mut Run)
     ensures begins { λ _. ⌜ Begins P·Policy (net (now (graph .entry))) (timesOf (now (graph .entry))) (now (policy .entry)) (stand 0 (state (now (run .exit))) (now (policy .exit))) ⌝ }
     ensures whole { λ _. ⌜ Whole (net (now (graph .entry))) (state (now (run .exit))) ⌝ }
 {
-    policy.clear();
     let actors = graph.actors().len();
-    reset(actors, graph.channels(), &times(graph), run);
+    clear_and_reset(actors, graph.channels(), &times(graph), policy, run);
     lay_begun(actors, &[0; 16], run, policy);
 }
 
@@ -92,9 +112,8 @@ pub fn later_tick<P: Policy>(graph: &Graph, policy: &mut P, run: &mut Run) -> u8
     ensures ticks { λ r. ⌜ Stepped P·Policy (net (now (graph .entry))) (timesOf (now (graph .entry))) (now (policy .entry)) (state (now (run .entry))) (now (policy .exit)) (state (now (run .exit))) r ⌝ }
     ensures whole { λ _. ⌜ Whole (net (now (graph .entry))) (state (now (run .exit))) ⌝ }
 {
-    policy.serve();
     let actors = graph.actors().len();
-    let left = left_with(actors, policy, run);
+    let left = serve_and_take(actors, policy, run);
     let done = step(actors, graph.channels(), &times(graph), &left, run);
     lay_begun(actors, &left, run, policy);
     marked(actors, &done)

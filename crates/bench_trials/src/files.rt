@@ -13,26 +13,14 @@ pub fn graph(heap: Global, times: &[u16], lines: &[Line]) -> Result<Graph, Fail>
     file.push(u8::try_from(lines.len())?)?;
     let mut name = b'A';
     for time in times {
-        let field = [0x02, 0x00, 0x0A, name, 0, 0, 0, 0, 0, 0, 0];
-        for byte in field {
-            file.push(byte)?;
-        }
-        for byte in time.to_be_bytes() {
-            file.push(byte)?;
-        }
+        file.extend_from_slice(&[0x02, 0x00, 0x0A, name, 0, 0, 0, 0, 0, 0, 0])?;
+        file.extend_from_slice(&time.to_be_bytes())?;
         name = name.wrapping_add(1);
     }
     for Line(source, dest, p, q, capacity, tokens) in lines {
-        let field = [0x03, 0x00, 0x08, *source, *dest, *p, *q];
-        for byte in field {
-            file.push(byte)?;
-        }
-        for byte in capacity.to_be_bytes() {
-            file.push(byte)?;
-        }
-        for byte in tokens.to_be_bytes() {
-            file.push(byte)?;
-        }
+        file.extend_from_slice(&[0x03, 0x00, 0x08, *source, *dest, *p, *q])?;
+        file.extend_from_slice(&capacity.to_be_bytes())?;
+        file.extend_from_slice(&tokens.to_be_bytes())?;
     }
     match Graph::read(&file) {
         Ok(graph) => Ok(graph),

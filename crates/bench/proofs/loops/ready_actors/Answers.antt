@@ -1,6 +1,4 @@
 use native.Mathlib.Numerals.{add-one}
-use Rattle.model.specs.Net.{every, busy, lets}
-use Rattle.bench.specs.Seen.{netOf, state}
 use Rattle.bench.proofs.Marks.{hinders-more}
 use Rattle.bench.proofs.loops.ready_actors.Needs as need
 

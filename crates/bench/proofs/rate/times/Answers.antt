@@ -1,4 +1,4 @@
-use mathlib.Core.Path.{_≡_, ap, _∙_}
+use mathlib.Core.Path.{_∙_}
 use native.Mathlib.Omega.{arith}
 use Rattle.graph.specs.Meaning.{actorsIn}
 use Rattle.bench.proofs.Graphs.{times-are}

@@ -26,15 +26,15 @@ returns g c =
     let m = g .P·Policy in
     let gr = c .args .graph .now in
     let us = c .actors-actors .result .now in
-    let left = c .left-with-left .result in
+    let left = c .serve-and-take-left .result in
     let done = c .step-done .result in
     let s = state (c .args .run .now) in
     let w = state (c .step-done .last .run) in
-    let q = c .serve .last .self in
+    let q = c .serve-and-take-left .last .policy in
     let p′ = c .lay-begun .last .policy in
     let size : length us ≡ length (actorsIn gr) = ap length (c .actors-actors .ensures) in
-    let h = step-done m gr (c .args .policy .now) q p′ left done s w (λ a ha. c .left-with-left .ensures .value a (omega arith)) (c .marked .result)
-    (c .pre .whole) (c .serve .ensures)
+    let h = step-done m gr (c .args .policy .now) q p′ left done s w (λ a ha. c .serve-and-take-left .ensures .value a (omega arith)) (c .marked .result)
+    (c .pre .whole) (c .serve-and-take-left .ensures .serves)
     (over-graph gr us (c .channels .result .now) (c .times .result) (c .actors-actors .ensures) (c .channels .ensures) (c .times .ensures)
     (λ (n : Net) (time : ℕ → ℕ). Matches n w (tick n time (taken s (at left)) s)) (c .step-done .ensures .after))
     (λ a ha. c .step-done .ensures .done a (omega arith))
