@@ -13,3 +13,4 @@ pub mod Answered
 pub mod Performs
 pub mod Stories
 pub mod Pins
+pub mod Turns

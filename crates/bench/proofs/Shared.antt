@@ -32,10 +32,10 @@ pub record Means {X : Type 0} (m : Ghosts X) : Type 0 where
   pub cleared : (p q : X) → m .clears p q → Cleared (m .view p) (m .view q)
 
 -- what is taken is what the policy has, where they were in step
-taken-is : (s : State) (lp lq : ℕ → ℕ) (a : ℕ) → s .left a ≡ lp a → (lp a ≡ 0 → lq a ≡ 0) → taken s lq a ≡ lq a
+pub taken-is : (s : State) (lp lq : ℕ → ℕ) (a : ℕ) → s .left a ≡ lp a → (lp a ≡ 0 → lq a ≡ 0) → taken s lq a ≡ lq a
 taken-is s lp lq a e r = elim (cases-lt 0 (s .left a)) [ inl on ↦ grind (arith, tells) | inr off ↦ let z = r (omega arith) in grind (arith, tells) ]
 
-at-rest : (l : ℕ) → ltb 0 l ≡ false → l ≡ 0
+pub at-rest : (l : ℕ) → ltb 0 l ≡ false → l ≡ 0
 at-rest l h = grind (arith, tells)
 
 not-go : (b : Bool) (l : ℕ) → (b ≡ true → l ≡ 0) → 0 < l → b ≡ false

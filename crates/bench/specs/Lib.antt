@@ -11,3 +11,4 @@ pub mod Story
 pub mod Calls
 pub mod Rated
 pub mod Guarantee
+pub mod Worked

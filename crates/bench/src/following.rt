@@ -48,6 +48,7 @@ impl<'g, P: Policy> Bench<'g, P> {
     }
 }
 
+// The lesser of two numbers.
 fn lesser(a: usize, b: usize) -> usize
     ensures { λ r. ⌜ r ≡ min a b ⌝ }
 {

@@ -14,6 +14,7 @@ mod sample;
 mod sampling;
 mod sharing;
 mod steps;
+mod worked;
 
 pub use bench::Bench;
 pub use call::Answer;
@@ -29,3 +30,4 @@ pub use rate::unhindered_rate;
 pub use report::Report;
 pub use sample::Sample;
 pub use sample::SampleRecord;
+pub use worked::worked_ring;
