@@ -3,7 +3,7 @@ ghost use mathlib.Core.Bool.{_&&_};
 ghost use lib.Dec.{ltb, eqb};
 ghost use Rattle.bench.specs.Firings.{leftOf, after};
 
-// An actor is idle, or has a firing under way with ticks left.
+// What an actor is doing: nothing, or a firing that has so many ticks to go.
 #[derive(Clone, Copy)]
 pub enum Firing {
     Idle,

@@ -3,7 +3,7 @@
 --   vacant, nobody           the actor of an unused place; the one past the end of a list
 --   headed                   1 to 16 actors, 0 to 32 channels
 --   printable, goes, formed  the bytes of a name
---   named                    1 to 8 bytes of 33 to 126, then zeros
+--   named                    one to eight printable bytes, filled up with zeros
 --   names, repeated          the names of some actors; whether one is among them
 --   timed                    1 to 4095 ticks
 --   ended                    both ends are actors

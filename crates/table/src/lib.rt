@@ -1,4 +1,4 @@
-// Records kept in a lent slice: one text for every kind of record that has a sameness and a stamp.
+// A table of records in rows that somebody lends, written once for all kinds that can be compared and stamped.
 ghost use mathlib.Core.Path.{_≡_};
 ghost use mathlib.Core.Bool.{Bool};
 ghost use Prim.Native.Nat.{ℕ, _+_, _<_, _≤_};
