@@ -31,6 +31,14 @@ fn widened(period: u8, slots: u8, d: u16) -> u32
     d + (period as u32 - s) * ((d + (s - 1)) / s)
 }
 
+// How many stretches of other positions come before so many under `slots` have gone by.
+fn stretches(slots: u32, passed: u32) -> u32
+    requires { ⌜ 0 < slots ⌝ }
+    ensures { λ r. ⌜ r ≡ passed / slots ⌝ }
+{
+    passed / slots
+}
+
 // How many ticks it takes until `d` positions under `slots` have gone by.
 fn awaited(period: u8, slots: u8, wheel: u8, d: u16) -> u32
     requires { ⌜ 0 < slots ⌝ ∗ ⌜ slots ≤ period ⌝ ∗ ⌜ wheel < period ⌝ }
@@ -44,9 +52,9 @@ fn awaited(period: u8, slots: u8, wheel: u8, d: u16) -> u32
     let w = wheel as u32;
     let d = d as u32;
     if w < s {
-        d + (p - s) * ((w + (d - 1)) / s)
+        d + (p - s) * stretches(s, w + (d - 1))
     } else {
-        (p - w) + d + (p - s) * ((d - 1) / s)
+        (p - w) + d + (p - s) * stretches(s, d - 1)
     }
 }
 

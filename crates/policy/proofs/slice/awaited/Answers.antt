@@ -1,4 +1,4 @@
-use mathlib.Core.Path.{sym, _∙_}
+use mathlib.Core.Path.{_≡_, sym, _∙_}
 use Prim.Native.Nat.{ℕ, _+_, _-_, _*_, _/_, _≤_}
 use native.Mathlib.Omega.{arith}
 use native.Mathlib.Nat.{div-le-self}
@@ -7,14 +7,15 @@ use Rattle.policy.proofs.Wheels.{closed-in, closed-out}
 use Rattle.policy.proofs.Waits.{wait-closed}
 use Rattle.policy.proofs.slice.awaited.Needs as need
 
-product : (p s n : ℕ) → p ≤ 255 → n ≤ 65790 → (p - s) * (n / s) ≤ 16776450
-product p s n h k = mul-le (p - s) (n / s) 255 65790 (omega arith) (omega (arith, div-le-self n s))
+-- the ticks of the stretches together
+product : (p s n r : ℕ) → r ≡ n / s → p ≤ 255 → n ≤ 65790 → (p - s) * r ≤ 16776450
+product p s n r e h k = mul-le (p - s) r 255 65790 (omega arith) (omega (arith, div-le-self n s))
 
 pub mul-result : need.mul-result
-mul-result c = omega (arith, product (c .args .period) (c .args .slots) (c .args .wheel + (c .args .d - 1)) (omega arith) (omega arith))
+mul-result c = omega (arith, product (c .args .period) (c .args .slots) _ _ (c .stretches .ensures) (omega arith) (omega arith))
 
-pub add-result-then-w-s : need.add-result-then-w-s
-add-result-then-w-s c = omega (arith, product (c .args .period) (c .args .slots) (c .args .wheel + (c .args .d - 1)) (omega arith) (omega arith))
+pub add-result : need.add-result
+add-result c = omega (arith, product (c .args .period) (c .args .slots) _ _ (c .stretches .ensures) (omega arith) (omega arith))
 
 pub returns-then-w-s : need.returns-then-w-s
 returns-then-w-s c =
@@ -22,7 +23,7 @@ returns-then-w-s c =
     let s = c .args .slots in
     let w = c .args .wheel in
     let d = c .args .d in
-    sym (wait-closed p s (omega arith) (omega arith) w d (omega arith) ∙ closed-in p s w d (omega arith) (omega arith))
+    rw (c .stretches .ensures) (sym (wait-closed p s (omega arith) (omega arith) w d (omega arith) ∙ closed-in p s w d (omega arith) (omega arith)))
 
 pub returns-else-w-s : need.returns-else-w-s
 returns-else-w-s c =
@@ -30,4 +31,4 @@ returns-else-w-s c =
     let s = c .args .slots in
     let w = c .args .wheel in
     let d = c .args .d in
-    sym (wait-closed p s (omega arith) (omega arith) w d (omega arith) ∙ closed-out p s w d (omega arith) (omega arith))
+    rw (c .stretches-else-w-s .ensures) (sym (wait-closed p s (omega arith) (omega arith) w d (omega arith) ∙ closed-out p s w d (omega arith) (omega arith)))
