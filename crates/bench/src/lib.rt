@@ -1,4 +1,6 @@
 // The bench, where a policy shares the run of a graph, and the call that carries the guarantee.
+#![tactic(auto)]
+
 mod bench;
 mod call;
 mod calls;

@@ -1,4 +1,6 @@
 // Runs and benches from outside: graphs read from bytes, what their rate answers and leaves, and benches over piles of policies.
+#![tactic(auto)]
+
 #[cfg(test)]
 mod benches;
 #[cfg(test)]

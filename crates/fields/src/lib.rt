@@ -1,4 +1,6 @@
 // The fields that a file is made of: a tag byte, a length of two bytes, high byte first, and a value.
+#![tactic(auto)]
+
 mod fault;
 mod field;
 mod reading;

@@ -1,4 +1,6 @@
 // A graph: named actors with times, and channels between them; its file, read and written.
+#![tactic(auto)]
+
 mod actor;
 mod channel;
 mod counts;

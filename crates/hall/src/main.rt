@@ -1,4 +1,6 @@
 // Reads a hall's file from standard input and prints the report on it.
+#![tactic(auto)]
+
 use report::{ENOUGH, Report, fill};
 use std::io;
 

@@ -1,4 +1,6 @@
 // The run of a graph from one end of a firing to the next. Only the crates of this layer call these; they keep what each asks for.
+#![tactic(auto)]
+
 mod course;
 mod ending;
 mod gathering;

@@ -1,3 +1,5 @@
+#![tactic(auto)]
+
 ghost use Rattle.std.specs.Prelude.{◌≡◌, [], ◌∷◌};
 ghost use Rattle.model.specs.Examples.{answer_of, chain, WorkedRuns};
 ghost use Rattle.model.specs.Laws.{Law, RunFits, Pace};

@@ -1,3 +1,5 @@
+#![tactic(auto)]
+
 mod blink;
 #[cfg(test)]
 mod piles;

@@ -1,4 +1,6 @@
 // The rate that a run comes to: of a graph's unhindered run, and of the run that a policy promises.
+#![tactic(auto)]
+
 mod agreement;
 mod fault;
 mod promised;

@@ -1,4 +1,6 @@
 // What the program prints for a file.
+#![tactic(auto)]
+
 mod fault;
 mod input;
 mod line;

@@ -1,4 +1,6 @@
 // What a tick does, over the arrays of a run. Only the crates of this layer call these; they keep what each asks for.
+#![tactic(auto)]
+
 mod firing;
 mod loops;
 mod run;

@@ -1,4 +1,6 @@
 // A table of records in rows that somebody lends, written once for all kinds that can be compared and stamped.
+#![tactic(auto)]
+
 ghost use Rattle.std.specs.Prelude.{◌≡◌, ℕ, ◌+◌, ◌<◌, ◌≤◌, Bool, length};
 ghost use Rattle.table.specs.Find.{FirstIs, AddedIs, RowIs, Rises, Tops};
 

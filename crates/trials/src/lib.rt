@@ -1,4 +1,6 @@
 // The crates used from outside, on examples.
+#![tactic(auto)]
+
 #[cfg(test)]
 mod files;
 #[cfg(test)]

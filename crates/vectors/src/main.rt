@@ -1,5 +1,7 @@
 // Prints the report on every cut of the file on standard input, and on the file with each of its bytes set to each value.
 // What it should print comes from tools/oracle.py.
+#![tactic(auto)]
+
 ghost use Rattle.std.specs.Prelude.{◌<◌, ◌≤◌, length};
 
 use report::{ENOUGH, Report, fill};
