@@ -11,6 +11,6 @@ returns-in-Some c =
     let framed : 3 ≤ length xs = search rules in (
       v.0,
       v.1,
-      rebuilt xs _ c.args.kind framed (c.if-tag.false ∙ c.tag.ensures) (sym c.number-of.ensures ∙ (c.if-number-of-size.false ∙ c.size.ensures)) low
+      rebuilt xs _ c.args.kind framed (c.if-tag.false ∙ c.tag.ensures) (sym c.number_of.ensures ∙ (c.if-number_of-size.false ∙ c.size.ensures)) low
           (sym (take_rest xs 3) ∙ v.2),
     )

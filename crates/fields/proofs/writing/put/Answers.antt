@@ -11,4 +11,4 @@ pasted a xs ys w e =
     ∙ rw (take_all (length w) w (omega arith)) (append_assoc (take a xs) w _)
 
 pub returns : goal.returns
-returns c = pasted c.args.at c.args.out.now c.copy-from-slice.new.self c.args.bytes.now c.copy-from-slice.ensures.after
+returns c = pasted c.args.at c.args.out.now c.copy_from_slice.new.self c.args.bytes.now c.copy_from_slice.ensures.after
