@@ -16,3 +16,7 @@ pub mod SlicesLemmas
 pub mod Wheels
 pub mod Afters
 pub mod Waits
+pub mod Rounds
+pub mod Dues
+pub mod Sums
+pub mod Overs

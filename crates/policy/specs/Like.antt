@@ -1,5 +1,6 @@
 -- When two policies are alike, so that nothing tells them apart.
 use Rattle.std.specs.Prelude.{◌≡◌, ℕ, slice_index}
+use Rattle.policy.specs.declared.meaning.Policy.{Ghosts}
 use Rattle.policy.specs.declared.rows.Rows.{Rows}
 use Rattle.policy.specs.declared.ring.Ring.{Ring}
 use Rattle.policy.specs.declared.slice.Slice.{Slice}
@@ -18,7 +19,7 @@ pub record RingLike (p q : Ring) : Type 0 where
   pub busy : p.busy ≡ q.busy
 
 -- the same wheel, over policies that are alike
-pub record SliceLike {X : Type 0} (like : X → X → Type 0) (p q : Slice X) : Type 0 where
+pub record SliceLike {X : Type 0} {m : Ghosts X} (like : X → X → Type 0) (p q : Slice X m) : Type 0 where
   pub below : like p.below q.below
   pub period : p.period ≡ q.period
   pub slots : p.slots ≡ q.slots

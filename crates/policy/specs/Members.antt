@@ -38,7 +38,7 @@ ring = record {
   clears = λ p q. RowsCleared p.rows.count p.rows.works q.rows.count q.rows.works q.rows.left × (q.turn ≡ p.turn) × (q.busy ≡ false);
 }
 
-abbrev pub slice : {X : Type 0} → Ghosts X → Ghosts (Slice X)
+abbrev pub slice : {X : Type 0} (m : Ghosts X) → Ghosts (Slice X m)
 slice m = record {
   view = λ p. sliced (m.view p.below) p.period p.slots p.wheel;
   ticks = λ p q. SliceTicks m.ticks p.below p.period p.slots p.wheel q.below q.period q.slots q.wheel;

@@ -1,7 +1,9 @@
 ghost use Rattle.policy.specs.Meaning.{Alike};
 ghost use Rattle.policy.specs.Like.{RowsLike, RingLike, SliceLike, PairLike};
-ghost use Rattle.std.specs.Prelude.{ℕ};
+ghost use Rattle.std.specs.Prelude.{ℕ, refl};
 ghost use Rattle.policy.specs.Exacts.{free_exact, ring_exact};
+ghost use Rattle.policy.specs.Members.{slice, pair};
+ghost use Rattle.policy.specs.Overs.{outcomes, shows, slice_exact, pair_exact};
 
 use crate::free::Free;
 use crate::meaning::Policy;
@@ -62,8 +64,28 @@ impl Exact for Ring {
 
 impl<P: Exact> Exact for Slice<P> {
     ghost like = { SliceLike P.Exact.like };
+
+    ghost same = { λ p. record { below = P.Exact.same p.below; period = refl; slots = refl; wheel = refl } };
+
+    ghost shown = { shows (slice P.Policy.own) (SliceLike P.Exact.like) (slice_exact P.Policy.own P.Exact.like (outcomes P.Policy.own P.Exact.like P.Exact.same P.Exact.shown P.Exact.ticking P.Exact.laying P.Exact.clearing)) };
+
+    ghost ticking = { (slice_exact P.Policy.own P.Exact.like (outcomes P.Policy.own P.Exact.like P.Exact.same P.Exact.shown P.Exact.ticking P.Exact.laying P.Exact.clearing)).ticks };
+
+    ghost laying = { (slice_exact P.Policy.own P.Exact.like (outcomes P.Policy.own P.Exact.like P.Exact.same P.Exact.shown P.Exact.ticking P.Exact.laying P.Exact.clearing)).lays };
+
+    ghost clearing = { (slice_exact P.Policy.own P.Exact.like (outcomes P.Policy.own P.Exact.like P.Exact.same P.Exact.shown P.Exact.ticking P.Exact.laying P.Exact.clearing)).clears };
 }
 
 impl<A: Exact, B: Exact> Exact for Pair<A, B> {
     ghost like = { PairLike A.Exact.like B.Exact.like };
+
+    ghost same = { λ p. record { first = A.Exact.same p.first; second = B.Exact.same p.second } };
+
+    ghost shown = { shows (pair A.Policy.own B.Policy.own) (PairLike A.Exact.like B.Exact.like) (pair_exact A.Policy.own B.Policy.own A.Exact.like B.Exact.like (outcomes A.Policy.own A.Exact.like A.Exact.same A.Exact.shown A.Exact.ticking A.Exact.laying A.Exact.clearing) (outcomes B.Policy.own B.Exact.like B.Exact.same B.Exact.shown B.Exact.ticking B.Exact.laying B.Exact.clearing)) };
+
+    ghost ticking = { (pair_exact A.Policy.own B.Policy.own A.Exact.like B.Exact.like (outcomes A.Policy.own A.Exact.like A.Exact.same A.Exact.shown A.Exact.ticking A.Exact.laying A.Exact.clearing) (outcomes B.Policy.own B.Exact.like B.Exact.same B.Exact.shown B.Exact.ticking B.Exact.laying B.Exact.clearing)).ticks };
+
+    ghost laying = { (pair_exact A.Policy.own B.Policy.own A.Exact.like B.Exact.like (outcomes A.Policy.own A.Exact.like A.Exact.same A.Exact.shown A.Exact.ticking A.Exact.laying A.Exact.clearing) (outcomes B.Policy.own B.Exact.like B.Exact.same B.Exact.shown B.Exact.ticking B.Exact.laying B.Exact.clearing)).lays };
+
+    ghost clearing = { (pair_exact A.Policy.own B.Policy.own A.Exact.like B.Exact.like (outcomes A.Policy.own A.Exact.like A.Exact.same A.Exact.shown A.Exact.ticking A.Exact.laying A.Exact.clearing) (outcomes B.Policy.own B.Exact.like B.Exact.same B.Exact.shown B.Exact.ticking B.Exact.laying B.Exact.clearing)).clears };
 }

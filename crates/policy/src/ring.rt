@@ -2,6 +2,7 @@ ghost use Rattle.std.specs.Prelude.{◌≡◌, ℕ, ◌+◌, ◌-◌, ◌<◌, �
 ghost use Rattle.policy.specs.Meaning.{View, Sound, Served, Cleared, Laid, layable};
 ghost use Rattle.policy.specs.Works.{WorksChecked, RowsMade, RowsLaid, RowsCleared};
 ghost use Rattle.policy.specs.Turns.{total, next, round, ringed, RingTicks};
+ghost use Rattle.policy.specs.Rounds.{ringed_sound, ringed_ticks};
 ghost use Rattle.std.proofs.Common.{rules, arith};
 
 use crate::fault::Fault;
@@ -98,9 +99,9 @@ impl Policy for Ring {
 
     ghost clears = { λ p q. RowsCleared p.rows.count p.rows.works q.rows.count q.rows.works q.rows.left × (q.turn ≡ p.turn) × (q.busy ≡ false) };
 
-    ghost sound = { first_of (Prim.search rules, Prim.grind (arith, Self.row.coded.inj)) };
+    ghost sound = { λ p. ringed_sound p.rows.count p.rows.works p.rows.left p.turn p.busy (record { few = p.rows.few; most = p.rows.most; past = p.rows.past; under = p.rows.under; on = p.on; going = p.going }) };
 
-    ghost ticked = { first_of (Prim.search rules, Prim.grind (arith, Self.row.coded.inj)) };
+    ghost ticked = { λ p q. ringed_ticks p.rows.count p.rows.works p.rows.left p.turn p.busy (record { few = p.rows.few; most = p.rows.most; past = p.rows.past; under = p.rows.under; on = p.on; going = p.going }) q.rows.count q.rows.works q.rows.left q.turn q.busy };
 
     ghost laid = { first_of (Prim.search rules, Prim.grind (arith, Self.row.coded.inj)) };
 

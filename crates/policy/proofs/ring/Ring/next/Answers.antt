@@ -15,19 +15,19 @@ after-a-requires c = c.loop-step.invariant.1 (omega arith)
 pub returns-then-left-gt0 : goal.returns-then-left-gt0
 returns-then-left-gt0 c =
     let r = c.args.self.now in
-    let found = waiting_found c.number-n.result r.rows.left c.loop-step.a c.loop-step.-step c.loop-step-test.true c.after-a.result c.after-a.ensures.0 (omega arith) in
+    let found = waiting_found c.number-n.result r.rows.left c.loop-step.a c.loop-step._step c.loop-step-test.true c.after-a.result c.after-a.ensures.0 (omega arith) in
     next_ended r.rows.count c.number-n.result r.rows.left r.turn r.busy (Some c.after-a.result) c.if-self.false c.number-n.ensures (c.loop-step.invariant.2 ∙ found)
 
 pub loop-step-preserved : goal.loop-step-preserved
 loop-step-preserved c = (
   c.number-n.ensures,
   (λ h. c.after-a.ensures.1),
-  c.loop-step.invariant.2 ∙ waiting_passed c.number-n.result c.args.self.now.rows.left c.loop-step.a c.loop-step.-step c.loop-step-test.true c.after-a.result c.after-a.ensures.0 (omega arith),
+  c.loop-step.invariant.2 ∙ waiting_passed c.number-n.result c.args.self.now.rows.left c.loop-step.a c.loop-step._step c.loop-step-test.true c.after-a.result c.after-a.ensures.0 (omega arith),
 )
 
 pub returns : goal.returns
 returns c =
     let r = c.args.self.now in
-    let e : c.number-n.result - c.loop-step.-step ≡ 0 = omega arith in
+    let e : c.number-n.result - c.loop-step._step ≡ 0 = omega arith in
     next_ended r.rows.count c.number-n.result r.rows.left r.turn r.busy None c.if-self.false c.number-n.ensures
     (c.loop-step.invariant.2 ∙ ap (waiting c.number-n.result r.rows.left c.loop-step.a) e)

@@ -24,13 +24,13 @@ overflow-add-sum c =
 pub returns-then-at-b : goal.returns-then-at-b
 returns-then-at-b c =
     let r = c.args.self.now in
-    let last = works_to_last r.rows.works c.number-n.result c.loop-step.at c.args.b c.loop-step.-step c.loop-step-test.true c.after-at.result c.after-at.ensures.0 c.if-at-b.true in
+    let last = works_to_last r.rows.works c.number-n.result c.loop-step.at c.args.b c.loop-step._step c.loop-step-test.true c.after-at.result c.after-at.ensures.0 c.if-at-b.true in
     omega (arith, last, c.loop-step.invariant.3, c.work-sum.ensures, ap (λ n. works_to r.rows.works n r.turn c.args.b n) c.number-n.ensures)
 
 pub loop-step-preserved : goal.loop-step-preserved
 loop-step-preserved c =
     let r = c.args.self.now in
-    let passed = works_to_passed r.rows.works c.number-n.result c.loop-step.at c.args.b c.loop-step.-step c.loop-step-test.true c.after-at.result c.after-at.ensures.0 c.if-at-b.false in (
+    let passed = works_to_passed r.rows.works c.number-n.result c.loop-step.at c.args.b c.loop-step._step c.loop-step-test.true c.after-at.result c.after-at.ensures.0 c.if-at-b.false in (
       c.number-n.ensures,
       (λ h. c.after-at.ensures.1),
       omega (arith, r.rows.most c.after-at.result, c.work-sum.ensures, c.loop-step.invariant.2),
@@ -40,7 +40,7 @@ loop-step-preserved c =
 pub returns : goal.returns
 returns c =
     let r = c.args.self.now in
-    let e : c.number-n.result - c.loop-step.-step ≡ 0 = omega arith in
+    let e : c.number-n.result - c.loop-step._step ≡ 0 = omega arith in
     omega (
       arith,
       c.loop-step.invariant.3,

@@ -1,5 +1,5 @@
 use Rattle.std.proofs.Common.{arith}
-use Rattle.policy.proofs.Sums.{total_next, total_limit}
+use Rattle.policy.specs.Sums.{total_next, total_limit}
 use Rattle.policy.proofs.ring.Ring.total.Goals as goal
 
 pub overflow-add-sum : goal.overflow-add-sum

@@ -1,7 +1,7 @@
 use Rattle.std.proofs.Common.{arith}
-use Rattle.policy.proofs.Rounds.{present, all_limit}
+use Rattle.policy.specs.Rounds.{present, all_limit}
 use Rattle.policy.proofs.Rings.{table}
-use Rattle.policy.proofs.Sums.{round_other}
+use Rattle.policy.specs.Sums.{round_other}
 use Rattle.policy.proofs.ring.RingPolicy.due.Goals as goal
 
 pub overflow-add-result : goal.overflow-add-result

@@ -4,7 +4,7 @@ use Rattle.std.proofs.lemmas.Bool.{cases_lt}
 use Rattle.policy.specs.declared.meaning.Policy.{Ghosts}
 use Rattle.policy.specs.declared.pair.Side.{Side}
 use Rattle.policy.specs.declared.pair.Side.TheVariants.{First, Second}
-use Rattle.policy.specs.Meaning.{View}
+use Rattle.policy.specs.Meaning.{View, Alike}
 use Rattle.policy.specs.Wheel.{wide, wait}
 use Rattle.policy.specs.Round.{after}
 use Rattle.policy.specs.Slices.{shown, SliceLays, SliceKeeps}
@@ -20,6 +20,29 @@ wide_like p q s r l m e f g = ap (λ z. wide z s l) e ∙ ap (λ z. wide q z l) 
 
 wait_like : (p q s r w v d c : ℕ) → p ≡ q → s ≡ r → w ≡ v → d ≡ c → wait p s w d ≡ wait q r v c
 wait_like p q s r w v d c e f g h = ap (λ z. wait z s w d) e ∙ ap (λ z. wait q z w d) f ∙ ap (λ z. wait q r z d) g ∙ ap (wait q r v) h
+
+-- one outcome for each call, as the laws of the trait say it
+pub outcomes : {X : Type 0} (m : Ghosts X) (like : X → X → Type 0) → ((p : X) → like p p) → ((p q : X) → like p q → Alike (m.view q) (m.view p))
+    → ((p p' q q' : X) → like p q → m.ticks p p' → m.ticks q q' → like p' q') → ((p p' q q' : X) (a : ℕ) → like p q → m.lays p a p' → m.lays q a q' → like p' q')
+    → ((p p' q q' : X) → like p q → m.clears p p' → m.clears q q' → like p' q') → Exact m like
+outcomes m like same shown ticks lays clears = record {
+  same = same;
+  number = λ p q e. (shown p q e).number;
+  work = λ p q e a. ((shown p q e).each a).work;
+  promise = λ p q e a. ((shown p q e).each a).promise;
+  left = λ p q e a. ((shown p q e).each a).left;
+  due = λ p q e a. ((shown p q e).each a).due;
+  ticks = ticks;
+  lays = lays;
+  clears = clears;
+}
+
+-- like ones show the same
+pub shows : {X : Type 0} (m : Ghosts X) (like : X → X → Type 0) → Exact m like → (p q : X) → like p q → Alike (m.view q) (m.view p)
+shows m like k p q e = record {
+  number = k.number p q e;
+  each = λ a. record { work = k.work p q e a; promise = k.promise p q e a; left = k.left p q e a; due = k.due p q e a };
+}
 
 module _ {X : Type 0} (m : Ghosts X) (like : X → X → Type 0) (k : Exact m like) where
   -- where nothing is done below, like ones stay like

@@ -5,8 +5,8 @@ use Rattle.policy.specs.Meaning.{View, Sound, SameTerms, Served}
 use Rattle.policy.specs.Round.{after}
 use Rattle.policy.specs.Turns.{total, waiting, next, round, owed, ringed, RingServes, RingRests, RingMoves, RingTicks}
 use Rattle.policy.specs.Afters.{after_below}
-use Rattle.policy.proofs.Dues.{owed_none, owed_ended, owed_other, by_owed}
-use Rattle.policy.proofs.Sums.{total_next, total_mono, total_limit, ahead, ahead_some, ahead_most, ahead_step, round_ge, round_le, round_other, round_step}
+use Rattle.policy.specs.Dues.{owed_none, owed_ended, owed_other, by_owed}
+use Rattle.policy.specs.Sums.{total_next, total_mono, total_limit, ahead, ahead_some, ahead_most, ahead_step, round_ge, round_le, round_other, round_step}
 
 -- what a ring's fields keep
 pub record Table (n : ℕ) (ws left : List ℕ) (t : ℕ) (busy : Bool) : Type 0 where
