@@ -16,8 +16,8 @@ loop-step-init c =
 pub after-at-requires : goal.after-at-requires
 after-at-requires c = c.loop-step.invariant.1 (omega arith)
 
-pub overflow-add-sum : goal.overflow-add-sum
-overflow-add-sum c =
+pub overflow_add-sum : goal.overflow_add-sum
+overflow_add-sum c =
     let r = c.args.self.now.rows in
     omega (arith, r.most c.after-at.result, r.few, c.work-sum.ensures, c.number-n.ensures, c.loop-step.invariant.2)
 

@@ -4,8 +4,8 @@ use Rattle.policy.proofs.Rings.{table}
 use Rattle.policy.specs.Sums.{round_other}
 use Rattle.policy.proofs.ring.RingPolicy.due.Goals as goal
 
-pub overflow-add-result : goal.overflow-add-result
-overflow-add-result c =
+pub overflow_add-result : goal.overflow_add-result
+overflow_add-result c =
     let p = c.args.self.now in
     let n = p.rows.count in
     let ws = p.rows.works in

@@ -5,13 +5,13 @@ use Rattle.policy.specs.Rounds.{next_has}
 use Rattle.policy.proofs.Rings.{table}
 use Rattle.policy.proofs.ring.RingPolicy.serve.Goals as goal
 
-pub serve-one-requires : goal.serve-one-requires
-serve-one-requires c =
+pub serve_one-requires : goal.serve_one-requires
+serve_one-requires c =
     let p = c.args.self.now in
     next_has p.rows.count p.rows.works p.rows.left p.turn p.busy (table p) c.in-Some.a (sym c.next.ensures ∙ c.in-Some.is)
 
-pub invariant-of-self : goal.invariant-of-self
-invariant-of-self c =
+pub invariant_of-self : goal.invariant_of-self
+invariant_of-self c =
     let p = c.args.self.now in
     let there = next_has p.rows.count p.rows.works p.rows.left p.turn p.busy (table p) c.in-Some.a (sym c.next.ensures ∙ c.in-Some.is) in
-    ((λ _. omega (arith, c.serve-one.ensures.number, there.0)), ((λ e. omega (arith, c.left.ensures, ltb-true 0 c.left.result e)), tt))
+    record { on = λ _. omega (arith, c.serve_one.ensures.number, there.0); going = λ e. omega (arith, c.left.ensures, ltb-true 0 c.left.result e) }

@@ -5,8 +5,8 @@ use Rattle.policy.specs.Waits.{wait_wide, wait_until}
 use Rattle.policy.specs.SlicesLemmas.{shown_is}
 use Rattle.policy.proofs.slice.SlicePolicy.due.Goals as goal
 
-pub overflow-cast-result : goal.overflow-cast-result
-overflow-cast-result g c =
+pub overflow_cast-result : goal.overflow_cast-result
+overflow_cast-result g c =
     let s = c.args.self.now in
     let promise = (g.P.Policy.view s.below).promise c.args.a in
     let k = g.met.P.Policy.sound s.below in
