@@ -46,7 +46,7 @@ returns g c =
     let gr = c.args.graph.now in
     let p = c.args.policy in
     let join = c.join-bench.ensures in
-    let rate = c.unhindered-rate-unhindered.ensures in
+    let rate = c.unhindered_rate-unhindered.ensures in
     let made : c.loop-i.i ≡ min (length c.args.calls.now) (length c.args.answers.now) = omega (arith, c.lesser-n.ensures) in
     record {
       story = subst (λ (k : ℕ). Followed m (net gr) (times_of gr) p c.args.calls.now c.args.answers.now c.loop-i.answers k (look c.loop-i.bench)) made
@@ -55,6 +55,6 @@ returns g c =
           join.refused (c.loop-i.invariant.2 p join.refused join.after) c.loop-i.invariant.3);
       graph = c.loop-i.invariant.0;
       unhindered = record { value = record { value = rate.value; after = rate.after; rising = rate.rising }; means = rate.means };
-      promised = c.promised-rate-promised.ensures;
+      promised = c.promised_rate-promised.ensures;
       fastest = rate.unbeaten;
     }

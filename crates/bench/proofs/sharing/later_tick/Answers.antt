@@ -24,18 +24,18 @@ returns g c =
     let m = g.P.Policy in
     let gr = c.args.graph.now in
     let us = c.actors-actors.result.now in
-    let left = c.serve-and-take-left.result in
+    let left = c.serve_and_take-left.result in
     let done = c.step-done.result in
     let s = state c.args.run.now in
     let w = state c.step-done.new.run in
-    let q = c.serve-and-take-left.new.policy in
-    let p' = c.lay-begun.new.policy in
+    let q = c.serve_and_take-left.new.policy in
+    let p' = c.lay_begun.new.policy in
     let size : length us ≡ length (actors_in gr) = ap length c.actors-actors.ensures in
-    let h = step_done m gr c.args.policy.now q p' left done s w (λ a ha. c.serve-and-take-left.ensures.value a (omega arith)) c.marked.result
-    c.requires.whole c.serve-and-take-left.ensures.serves
+    let h = step_done m gr c.args.policy.now q p' left done s w (λ a ha. c.serve_and_take-left.ensures.value a (omega arith)) c.marked.result
+    c.requires.whole c.serve_and_take-left.ensures.serves
     (over_graph gr us c.channels.result.now c.times.result c.actors-actors.ensures c.channels.ensures c.times.ensures
     (λ (n : Net) (time : ℕ → ℕ). Matches n w (tick n time (taken s (at left)) s)) c.step-done.ensures.after)
     (λ a ha. c.step-done.ensures.done a (omega arith))
-    (subst (λ (k : ℕ). Lays m (newly (at left) w) k q p') size c.lay-begun.ensures)
+    (subst (λ (k : ℕ). Lays m (newly (at left) w) k q p') size c.lay_begun.ensures)
     (c.marked.ensures ∙ ap (many (flag done)) size) in
     record { ticks = h.0; whole = h.1 }

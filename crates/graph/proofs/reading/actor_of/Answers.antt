@@ -14,7 +14,7 @@ split v e b =
 
 pub returns : goal.returns
 returns c =
-    let h = c.copy-from-slice.ensures in
+    let h = c.copy_from_slice.ensures in
     let v = c.args.value.now in
     let long : length v ≡ 10 = search rules in
     (rw h.after refl, rw h.after (split v long (search rules)), h.len)

@@ -4,9 +4,9 @@ use Rattle.fields.specs.declared.field.Kind.TheVariants as kind
 use Rattle.graph.proofs.reading.channel.Goals as goal
 
 pub returns : goal.returns
-returns c = let h = c.in-ok-field.ensures in (
+returns c = let h = c.in_ok-field.ensures in (
   h.2
-      ∙ ap (λ (l : List ℕ). framed kind.Channel (l ++ c.in-ok-field.rest.now))
-      (ap bytes_of c.in-Channel.is ∙ c.channel-of-channel.ensures.1),
-  (sym c.if-not-is-ended.ensures, sym c.if-not-is-limited.ensures),
+      ∙ ap (λ (l : List ℕ). framed kind.Channel (l ++ c.in_ok-field.rest.now))
+      (ap bytes_of c.in-Channel.is ∙ c.channel_of-channel.ensures.1),
+  (sym c.if-not-is_ended.ensures, sym c.if-not-is_limited.ensures),
 )

@@ -10,19 +10,19 @@ module _ (over : Bool) (bs : List ℕ) (i : ℕ) (r : Bool) (long : length bs �
   step : formed false bs ≡ (r && formed (eqb (get_or bs i 0) 0) (drop (i + 1) bs))
   step = rw g (sym inv ∙ at_drop_more (formed over) bs i 0 (omega arith))
 
-pub returns-then-not-may-follow : goal.returns-then-not-may-follow
-returns-then-not-may-follow c =
+pub returns-then-not-may_follow : goal.returns-then-not-may_follow
+returns-then-not-may_follow c =
     let e =
-    step c.loop-i.over c.args.name.now c.loop-i.i c.may-follow.result (search rules) c.loop-i-test.true c.may-follow.ensures
+    step c.loop-i.over c.args.name.now c.loop-i.i c.may_follow.result (search rules) c.loop-i-test.true c.may_follow.ensures
     c.loop-i.invariant in
-    rw (e, c.if-not-may-follow.true) refl
+    rw (e, c.if-not-may_follow.true) refl
 
 pub loop-i-preserved : goal.loop-i-preserved
 loop-i-preserved c =
     let e =
-    step c.loop-i.over c.args.name.now c.loop-i.i c.may-follow.result (search rules) c.loop-i-test.true c.may-follow.ensures
+    step c.loop-i.over c.args.name.now c.loop-i.i c.may_follow.result (search rules) c.loop-i-test.true c.may_follow.ensures
     c.loop-i.invariant in
-    sym (rw c.if-not-may-follow.false at e)
+    sym (rw c.if-not-may_follow.false at e)
 
 pub returns : goal.returns
 returns c =

@@ -12,5 +12,5 @@ pair_set v a b e =
 pub returns : goal.returns
 returns c =
     let t = c.args.actor.now.time in
-    let h = c.copy-from-slice.ensures in
-    pair_set c.copy-from-slice.new.self (t / 256) (t % 256) h.len ∙ ap (λ (v : List ℕ). v ++ two t) h.after
+    let h = c.copy_from_slice.ensures in
+    pair_set c.copy_from_slice.new.self (t / 256) (t % 256) h.len ∙ ap (λ (v : List ℕ). v ++ two t) h.after

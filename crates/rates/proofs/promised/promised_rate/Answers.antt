@@ -7,11 +7,11 @@ use Rattle.rates.proofs.Agreements.{promised_timed}
 use Rattle.rates.proofs.Going.{rated_as}
 use Rattle.rates.proofs.promised.promised_rate.Goals as goal
 
-pub rate-with-requires : goal.rate-with-requires
-rate-with-requires g c κs a ha =
+pub rate_with-requires : goal.rate_with-requires
+rate_with-requires g c κs a ha =
     let gr = c.args.graph.now in
     let p = c.args.policy.now in
-    let pos = promised_timed (net gr) (times_of gr) (g.P.Policy.view p) (graph_timed gr) (g.met.P.Policy.sound p) c.in-default.ensures in
+    let pos = promised_timed (net gr) (times_of gr) (g.P.Policy.view p) (graph_timed gr) (g.met.P.Policy.sound p) c.in_default.ensures in
     omega (arith, c.promises.ensures a, pos a ha)
 
 pub returns : goal.returns
@@ -19,10 +19,10 @@ returns g c =
     let gr = c.args.graph.now in
     let p = c.args.policy.now in
     let promise = (g.P.Policy.view p).promise in
-    let agreed = c.in-default.ensures in
+    let agreed = c.in_default.ensures in
     record {
       rated = λ _. record {
-        value = rated_as c.promises.ensures c.rate-with.ensures;
+        value = rated_as c.promises.ensures c.rate_with.ensures;
         means = rate_holds (net gr) promise (reps_of gr)
             (graph_accepted gr promise (promised_timed (net gr) (times_of gr) (g.P.Policy.view p) (graph_timed gr) (g.met.P.Policy.sound p) agreed)) (length c.args.rows.now) last_tick;
       };

@@ -22,13 +22,13 @@ returns-in-Some c =
     let h = c.in-Some.ensures in
     rated_over c.over-table.ensures.rows (search rules) (answers_so few g (judged_comes few g h.rising h.value))
 
-pub returns-then-tick-eq-LAST-TICK : goal.returns-then-tick-eq-LAST-TICK
-returns-then-tick-eq-LAST-TICK c =
+pub returns-then-tick-eq-LAST_TICK : goal.returns-then-tick-eq-LAST_TICK
+returns-then-tick-eq-LAST_TICK c =
     let g = c.ticks.invariant.0 in
     let few = c.requires.fitting.few in
-    let h = c.in-default.ensures in
+    let h = c.in_default.ensures in
     rated_over c.over-table.ensures.rows (search rules)
-    (ends_so few g (omega (arith, c.if-tick-eq-LAST-TICK.true)) (judged_comes few g h.rising h.value))
+    (ends_so few g (omega (arith, c.if-tick-eq-LAST_TICK.true)) (judged_comes few g h.rising h.value))
 
 pub advance-due-requires : goal.advance-due-requires
 advance-due-requires c =
@@ -48,9 +48,9 @@ ticks-preserved c =
     let time = at c.args.times.now in
     let few = c.requires.fitting.few in
     let g = c.ticks.invariant.0 in
-    let h = c.in-default.ensures in
+    let h = c.in_default.ensures in
     let m = next_matches n c.requires.fitting.sound time (state c.ticks.run) (state c.advance-due.new.run) c.ticks.tick c.advance-due.ensures.after g.state in (
-      goes_on few g (omega (arith, c.if-tick-eq-LAST-TICK.false)) (judged_comes few g h.rising h.value) m
+      goes_on few g (omega (arith, c.if-tick-eq-LAST_TICK.false)) (judged_comes few g h.rising h.value) m
           (c.advance-due.ensures.value ∙ due_next n time c.args.rep c.ticks.tick c.requires.some.0 g.state m),
       c.judged.ensures.lender ∙ c.ticks.invariant.1,
     )

@@ -1,8 +1,8 @@
 use Rattle.runs.proofs.Graphs.{graph_some, graph_counted, graph_fitting}
 use Rattle.rates.proofs.rate.rate_with.Goals as goal
 
-pub rate-over-requires : goal.rate-over-requires
-rate-over-requires c =
+pub rate_over-requires : goal.rate_over-requires
+rate_over-requires c =
     let g = c.args.graph.now in
     record {
       some = (rw c.actors.ensures (graph_some g), rw c.counts.ensures (graph_counted g));

@@ -10,7 +10,7 @@ use Rattle.rates.proofs.rate.unhindered_rate.Goals as goal
 pub returns : goal.returns
 returns c =
     let g = c.args.graph.now in
-    let r = rated_as c.times.ensures c.rate-with.ensures in
+    let r = rated_as c.times.ensures c.rate_with.ensures in
     record {
       value = r.value;
       after = r.after;

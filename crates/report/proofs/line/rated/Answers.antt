@@ -10,15 +10,15 @@ returns-in-Ok c =
     let p = c.in-Ok.ensures in
     let both = c.follow-both in
     record {
-      rate = c.keep.ensures ∙ rated_is g (times_of g) _ _ both.result.unhindered c.rows-rate-rows.ensures both.ensures.unhindered.value;
+      rate = c.keep.ensures ∙ rated_is g (times_of g) _ _ both.result.unhindered c.rows-rate_rows.ensures both.ensures.unhindered.value;
       held = c.keep-in-Ok.ensures
-          ∙ held_is g _ _ _ both.result.promised c.rows-held-rows.ensures p.0 p.2 (both.ensures.promised.rated p.1).value;
+          ∙ held_is g _ _ _ both.result.promised c.rows-held_rows.ensures p.0 p.2 (both.ensures.promised.rated p.1).value;
     }
 
 pub returns-in-Err : goal.returns-in-Err
 returns-in-Err c =
     let p = c.in-Err.ensures in
     record {
-      rate = c.keep-in-Err.ensures ∙ ap kept (rw c.rows-rate-rows.ensures at c.unhindered-rate.ensures.value);
+      rate = c.keep-in-Err.ensures ∙ ap kept (rw c.rows-rate_rows.ensures at c.unhindered_rate.ensures.value);
       held = rw p.0 (held_refused c.args.graph.now p.1);
     }

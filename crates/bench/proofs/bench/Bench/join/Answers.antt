@@ -9,11 +9,11 @@ pub returns : goal.returns
 returns g c =
     let gr = c.args.graph.now in
     let met = g.met.P.Policy in
-    let b = c.tick-zero.ensures.begins in
+    let b = c.tick_zero.ensures.begins in
     record {
       same = refl;
-      refused = c.lowest-differing-refused.ensures;
+      refused = c.lowest_differing-refused.ensures;
       after = b;
       kept = joins_in_step g.P.Policy (record { sound = met.sound; ticked = met.ticked; laid = met.laid; cleared = met.cleared })
-          (net gr) (graph_fitting gr).sound (times_of gr) (graph_timed gr) c.args.policy (stand 0 (state c.tick-zero.new.run) c.tick-zero.new.policy) b;
+          (net gr) (graph_fitting gr).sound (times_of gr) (graph_timed gr) c.args.policy (stand 0 (state c.tick_zero.new.run) c.tick_zero.new.policy) b;
     }

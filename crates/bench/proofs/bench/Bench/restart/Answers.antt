@@ -14,8 +14,8 @@ returns g c =
     let met = g.met.P.Policy in
     record {
       value = restarted_so g.P.Policy (record { sound = met.sound; ticked = met.ticked; laid = met.laid; cleared = met.cleared })
-          (net gr) (graph_fitting gr).sound (times_of gr) (graph_timed gr) b.refused (look b) (stand 0 (state c.tick-zero.new.run) c.tick-zero.new.policy) tt
-          c.in-default.is c.tick-zero.ensures.begins;
+          (net gr) (graph_fitting gr).sound (times_of gr) (graph_timed gr) b.refused (look b) (stand 0 (state c.tick_zero.new.run) c.tick_zero.new.policy) tt
+          c.in_default.is c.tick_zero.ensures.begins;
       same = (refl, refl);
       refused = λ e. absurd (true≢false e);
     }

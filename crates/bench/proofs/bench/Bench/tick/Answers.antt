@@ -6,13 +6,13 @@ use Rattle.bench.proofs.Sharings.{step_few}
 use Rattle.bench.proofs.Answered.{ticked_so}
 use Rattle.bench.proofs.bench.Bench.tick.Goals as goal
 
-pub invariant-of-self : goal.invariant-of-self
-invariant-of-self g c =
+pub invariant_of-self : goal.invariant_of-self
+invariant_of-self g c =
     let b = c.args.self.now in
     let gr = b.graph.now in
-    let few = step_few g.P.Policy (net gr) (times_of gr) b.policy c.later-tick-ended.new.policy (state b.run) (state c.later-tick-ended.new.run) c.later-tick-ended.result
-    c.later-tick-ended.ensures.ticks in
-    (omega arith, ((λ a ha. omega (arith, few a ha, b.few a ha)), (c.later-tick-ended.ensures.whole, tt)))
+    let few = step_few g.P.Policy (net gr) (times_of gr) b.policy c.later_tick-ended.new.policy (state b.run) (state c.later_tick-ended.new.run) c.later_tick-ended.result
+    c.later_tick-ended.ensures.ticks in
+    (omega arith, ((λ a ha. omega (arith, few a ha, b.few a ha)), (c.later_tick-ended.ensures.whole, tt)))
 
 pub returns : goal.returns
 returns g c =
@@ -21,8 +21,8 @@ returns g c =
     let met = g.met.P.Policy in
     record {
       value = ticked_so g.P.Policy (record { sound = met.sound; ticked = met.ticked; laid = met.laid; cleared = met.cleared })
-          (net gr) (graph_fitting gr).sound (times_of gr) (graph_timed gr) b.refused b.policy c.later-tick-ended.new.policy (state b.run) (state c.later-tick-ended.new.run)
-          b.tick c.later-tick-ended.result c.in-default.is (omega arith) c.later-tick-ended.ensures.ticks;
+          (net gr) (graph_fitting gr).sound (times_of gr) (graph_timed gr) b.refused b.policy c.later_tick-ended.new.policy (state b.run) (state c.later_tick-ended.new.run)
+          b.tick c.later_tick-ended.result c.in_default.is (omega arith) c.later_tick-ended.ensures.ticks;
       same = (refl, refl);
       refused = λ e. absurd (true≢false e);
     }

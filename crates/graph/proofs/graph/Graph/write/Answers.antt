@@ -13,24 +13,24 @@ returns-then-out-size c =
     record { done = (refl, omega (arith, size_is g, c.if-out-size.true), refl); back = reads_back g }
 
 -- the buffer has room for the actors and for the channels, so that neither is refused
-pub returns-in-err-at-2 : goal.returns-in-err-at-2
-returns-in-err-at-2 c =
+pub returns-in_err-at-2 : goal.returns-in_err-at-2
+returns-in_err-at-2 c =
     let g = c.args.self.now in
-    let h = c.in-err-at-2.ensures.1 in
-    absurd (omega (arith, rw c.actors.ensures at h, c.in-ok-at.ensures.0, c.write.auto.out, c.if-out-size.false, actors_size g))
+    let h = c.in_err-at-2.ensures.1 in
+    absurd (omega (arith, rw c.actors.ensures at h, c.in_ok-at.ensures.0, c.write.auto.out, c.if-out-size.false, actors_size g))
 
-pub returns-in-err-at-3 : goal.returns-in-err-at-3
-returns-in-err-at-3 c =
+pub returns-in_err-at-3 : goal.returns-in_err-at-3
+returns-in_err-at-3 c =
     let g = c.args.self.now in
-    let h = c.in-err-at-3.ensures.1 in
-    let u = c.in-ok-at-2.ensures.0 in
+    let h = c.in_err-at-3.ensures.1 in
+    let u = c.in_ok-at-2.ensures.0 in
     absurd (omega (
       arith,
       rw c.channels.ensures at h,
       rw c.actors.ensures at u,
-      c.in-ok-at.ensures.0,
+      c.in_ok-at.ensures.0,
       c.write.auto.out,
-      c.put-all.auto.out,
+      c.put_all.auto.out,
       c.if-out-size.false,
       actors_size g,
       channels_size g,
@@ -48,21 +48,21 @@ returns c =
     let g = c.args.self.now in
     let us = flat_map actor_bytes (actors_in g) in
     let cs = flat_map channel_bytes (channels_in g) in
-    let h = c.in-ok-at.ensures in
-    let u : PutAllIs c.in-ok-at.at us c.write.new.out c.put-all.new.out (Ok c.in-ok-at-2.at) =
-    rw c.actors.ensures at c.in-ok-at-2.ensures in
-    let w : PutAllIs c.in-ok-at-2.at cs c.put-all.new.out c.put-all-2.new.out (Ok c.in-ok-at-3.at) =
-    rw c.channels.ensures at c.in-ok-at-3.ensures in
-    let long : c.in-ok-at-3.at ≡ length (head_bytes (length (actors_in g)) (length (channels_in g)) ++ (us ++ cs)) =
+    let h = c.in_ok-at.ensures in
+    let u : PutAllIs c.in_ok-at.at us c.write.new.out c.put_all.new.out (Ok c.in_ok-at-2.at) =
+    rw c.actors.ensures at c.in_ok-at-2.ensures in
+    let w : PutAllIs c.in_ok-at-2.at cs c.put_all.new.out c.put_all-2.new.out (Ok c.in_ok-at-3.at) =
+    rw c.channels.ensures at c.in_ok-at-3.ensures in
+    let long : c.in_ok-at-3.at ≡ length (head_bytes (length (actors_in g)) (length (channels_in g)) ++ (us ++ cs)) =
     omega (arith, h.0, u.0, w.0, size_is g, actors_size g, channels_size g) in
     let first : Placed 0 (head_bytes (length (actors_in g)) (length (channels_in g))) c.args.out.now c.write.new.out =
     rw (actors_are g, channels_are g) h.2 in
     record {
       done = (
         long,
-        three c.in-ok-at.at c.in-ok-at-2.at (head_bytes (length (actors_in g)) (length (channels_in g))) us cs c.args.out.now c.write.new.out
-            c.put-all.new.out c.put-all-2.new.out h.0 u.0
-            (omega (arith, h.0, u.0, c.if-out-size.false, actors_size g)) first u.1 w.1 c.in-ok-at-3.at long,
+        three c.in_ok-at.at c.in_ok-at-2.at (head_bytes (length (actors_in g)) (length (channels_in g))) us cs c.args.out.now c.write.new.out
+            c.put_all.new.out c.put_all-2.new.out h.0 u.0
+            (omega (arith, h.0, u.0, c.if-out-size.false, actors_size g)) first u.1 w.1 c.in_ok-at-3.at long,
       );
       back = reads_back g;
     }

@@ -2,4 +2,4 @@ use Rattle.std.proofs.Common.{rules}
 use Rattle.graph.proofs.writing.ChannelPart.put.Goals as goal
 
 pub returns : goal.returns
-returns c = rw c.channel-value.ensures at c.write.ensures
+returns c = rw c.channel_value.ensures at c.write.ensures
