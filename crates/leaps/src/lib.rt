@@ -2,13 +2,11 @@
 #![tactic(auto)]
 
 mod course;
-mod ending;
 mod gathering;
 mod moves;
 mod moving;
 mod plan;
 mod planning;
-mod starting;
 
 pub use course::{Course, NEVER};
 pub use plan::Plan;

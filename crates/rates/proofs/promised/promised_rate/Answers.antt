@@ -8,7 +8,7 @@ use Rattle.rates.proofs.Going.{rated_as}
 use Rattle.rates.proofs.promised.promised_rate.Goals as goal
 
 pub rate_with-requires : goal.rate_with-requires
-rate_with-requires g c κs a ha =
+rate_with-requires g c a ha =
     let gr = c.args.graph.now in
     let p = c.args.policy.now in
     let pos = promised_timed (net gr) (times_of gr) (g.P.Policy.view p) (graph_timed gr) (g.met.P.Policy.sound p) c.in_default.ensures in
