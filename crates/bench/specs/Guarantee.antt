@@ -20,7 +20,7 @@ abbrev pub made : List Call → List Answer → ℕ
 made calls answers = min (length calls) (length answers)
 
 -- p is the policy that is joined, rows are those of the unhindered run and held those of the promised one; primes stand for afterwards
-pub record Guaranteed {X : Type 0} (m : Ghosts X) (g : Graph) (p : X) (calls : List Call) (answers answers' : List Answer) (rows rows' held held' : List Sample) (r : Report X) : Type 0 where
+pub record Guaranteed {X : Type 0} (m : Ghosts X) (g : Graph) (p : X) (calls : List Call) (answers answers' : List Answer) (rows rows' held held' : List Sample) (r : Report X m) : Type 0 where
   pub graph : graph_of r.bench ≡ g
   pub story : Followed m (net g) (times_of g) p calls answers answers' (made calls answers) (look r.bench)
   pub unhindered : RunRated g (times_of g) rows rows' r.unhindered

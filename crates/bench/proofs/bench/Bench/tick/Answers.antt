@@ -12,7 +12,7 @@ invariant_of-self g c =
     let gr = b.graph.now in
     let few = step_few g.P.Policy (net gr) (times_of gr) b.policy c.later_tick-ended.new.policy (state b.run) (state c.later_tick-ended.new.run) c.later_tick-ended.result
     c.later_tick-ended.ensures.ticks in
-    (omega arith, ((λ a ha. omega (arith, few a ha, b.few a ha)), (c.later_tick-ended.ensures.whole, tt)))
+    record { early = omega arith; few = λ a ha. omega (arith, few a ha, b.few a ha); whole = c.later_tick-ended.ensures.whole }
 
 pub returns : goal.returns
 returns g c =
