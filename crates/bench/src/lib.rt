@@ -12,5 +12,7 @@ mod worked;
 pub use bench::Bench;
 pub use call::{Answer, Call};
 pub use following::{follow, follow_exact};
+pub use rates::{Fault, LAST_TICK, Rate, Sample, promised_rate, unhindered_rate};
 pub use report::Report;
+pub use runs::times;
 pub use worked::worked_ring;

@@ -17,6 +17,7 @@ use Rattle.policy.specs.Works.{Workable, RowsMade}
 use Rattle.policy.specs.declared.fault.Fault.{Fault}
 use Rattle.policy.specs.declared.fault.Fault.TheVariants.{Crowd, Limits, Promise}
 use Rattle.policy.specs.declared.ring.Ring.{Ring}
+use Rattle.policy.specs.contracts.ring.RingPolicy.TheImpl.{ghosts}
 use Rattle.policy.specs.declared.slice.Slice.{Slice}
 use Rattle.runs.specs.Seen.{net, at, times_of}
 use Rattle.rates.specs.Agree.{Agree, Agreed}
@@ -97,7 +98,7 @@ module _ (g : Graph) (times works : List ℕ) (same : (a : ℕ) → at times a �
     too_wide (Limits a) h = absurd (omega (arith, h.1 (lit< tt)))
     too_wide (Promise a) h = let t = too_long a h in (ap Promise t.0, t.1)
 
-    pub piled : (p : Slice Ring) → p.below ≡ r → Sliceable (ring_seen r) 5 2 → (p.period ≡ 5) × (p.slots ≡ 2) → PileIs g (Ok p)
+    pub piled : (p : Slice Ring ghosts) → p.below ≡ r → Sliceable (ring_seen r) 5 2 → (p.period ≡ 5) × (p.slots ≡ 2) → PileIs g (Ok p)
     piled p e s m =
         let fits : (a : ℕ) → wide p.period p.slots ((ring_seen p.below).promise a) ≤ 65535 = λ a. rw (e, m.0, m.1) (s.fits a) in
         let many : p.below.rows.count ≡ n = ap (λ (q : Ring). q.rows.count) e ∙ count_is in (

@@ -6,6 +6,7 @@ use Rattle.policy.specs.Slices.{sliced}
 use Rattle.policy.specs.Turns.{ringed}
 use Rattle.policy.specs.declared.fault.Fault.TheVariants.{Promise}
 use Rattle.policy.specs.declared.ring.Ring.{Ring}
+use Rattle.policy.specs.contracts.ring.RingPolicy.TheImpl.{ghosts}
 use Rattle.policy.specs.declared.slice.Slice.{Slice}
 use Rattle.runs.specs.Seen.{net, times_of}
 use Rattle.rates.specs.Agree.{Agreed}
@@ -17,10 +18,10 @@ use Rattle.report.specs.Lines.{promised, promised_to}
 abbrev pub ring_seen : Ring → View
 ring_seen r = ringed r.rows.count r.rows.works r.rows.left r.turn r.busy
 
-abbrev pub pile_seen : Slice Ring → View
+abbrev pub pile_seen : Slice Ring ghosts → View
 pile_seen p = sliced (ring_seen p.below) p.period p.slots p.wheel
 
 -- its works are the graph's times and its promises fit, or they are over 65,535
-abbrev pub PileIs : Graph → Result (Slice Ring) Fault → Type 0
+abbrev pub PileIs : Graph → Result (Slice Ring ghosts) Fault → Type 0
 PileIs g (Ok p) = (promised g ≤ 65535) × Agreed (net g) (times_of g) (pile_seen p) × ((a : ℕ) → (pile_seen p).promise a ≡ promised_to g a)
 PileIs g (Err f) = (f ≡ Policy (Promise 0)) × (65535 < promised g)
