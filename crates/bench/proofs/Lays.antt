@@ -1,10 +1,10 @@
 -- What the lays of those that start have done. Assumes nothing.
-use Rattle.std.proofs.Common.{◌≡◌, ℕ, zero, suc, ◌+◌, ◌<◌, ◌≤◌, Bool, true, false, eqb, ltb, sym, refl, ◌∙◌, subst, inl, inr, arith}
+use Rattle.std.proofs.Common.{◌≡◌, ℕ, zero, suc, ◌<◌, ◌≤◌, Bool, true, false, sym, refl, ◌∙◌, subst, inl, inr, arith}
 use Rattle.std.proofs.lemmas.Bool.{cases_eq, both_ways}
 use Rattle.std.proofs.lemmas.Bool.Decides.{nat_tests}
 use Rattle.policy.specs.declared.meaning.Policy.{Ghosts}
 use Rattle.policy.specs.Meaning.{View, SameTerms, Laid, layable}
-use Rattle.bench.specs.Sharing.{Asked, Lays}
+use Rattle.bench.specs.Sharing.{Lays}
 
 pub terms_trans : (u v w : View) → SameTerms u v → SameTerms v w → SameTerms u w
 terms_trans u v w h k = record { number = k.number ∙ h.number; work = λ a. k.work a ∙ h.work a; promise = λ a. k.promise a ∙ h.promise a }

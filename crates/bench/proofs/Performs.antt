@@ -1,5 +1,5 @@
 -- What a call of a list does is what the call itself does. Assumes nothing.
-use Rattle.std.proofs.Common.{◌≡◌, ℕ, ◌<◌, ◌≤◌, [], ◌∷◌, Some, None, Ok, Err, Option, refl, ap, arith}
+use Rattle.std.proofs.Common.{◌≡◌, ℕ, ◌<◌, ◌≤◌, [], ◌∷◌, Some, None, Ok, Err, Option, refl, arith}
 use Rattle.policy.specs.declared.meaning.Policy.{Ghosts}
 use Rattle.model.specs.Net.{Net}
 use Rattle.rates.specs.declared.fault.Fault.{Fault}

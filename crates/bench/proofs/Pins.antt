@@ -2,9 +2,9 @@
 use Rattle.std.proofs.Common.{◌≡◌, ℕ, zero, suc, ◌+◌, ◌<◌, ◌≤◌, Bool, true, false, cond, ◌&&◌, eqb, ltb, ◌⊎◌, sym, refl, ap, ◌∙◌, subst, ap₂, inl, inr, arith}
 use Rattle.std.proofs.lemmas.Bool.{cases_eq, cases_Bool}
 use Rattle.policy.specs.declared.meaning.Policy.{Ghosts}
-use Rattle.policy.specs.Meaning.{View, Alike as AlikeViews, layable}
-use Rattle.model.specs.Net.{Net, Sound, State, when, busy, ready, ends, finish, tick, initial_state, run}
-use Rattle.model.specs.Likeness.{Alike, Matches}
+use Rattle.policy.specs.Meaning.{Alike as AlikeViews, layable}
+use Rattle.model.specs.Net.{Net, Sound, State, ready, ends, finish, initial_state, run}
+use Rattle.model.specs.Likeness.{Matches}
 use Rattle.model.proofs.Alikes.{ready_alike, finish_alike, tick_matches}
 use Rattle.runs.specs.Seen.{taken}
 use Rattle.rates.specs.declared.fault.Fault.TheVariants.{LastTick, Absent}

@@ -1,10 +1,10 @@
 -- A bench keeps in step with its policy, and between the promised and the unhindered run. Assumes nothing.
-use Rattle.std.proofs.Common.{◌≡◌, ℕ, suc, ◌+◌, ◌<◌, ◌≤◌, Bool, true, false, cond, ◌&&◌, eqb, ltb, [], ◌∷◌, length, sym, refl, ap, ◌∙◌, subst, inl, inr, add-one, arith}
+use Rattle.std.proofs.Common.{◌≡◌, ℕ, suc, ◌+◌, ◌<◌, Bool, true, false, cond, ◌&&◌, eqb, ltb, [], ◌∷◌, length, sym, refl, ap, ◌∙◌, subst, inl, inr, add-one, arith}
 use Rattle.std.proofs.lemmas.Bool.{cases_lt}
 use Rattle.std.proofs.lemmas.Bool.Decides.{nat_tests}
 use Rattle.policy.specs.declared.meaning.Policy.{Ghosts}
-use Rattle.policy.specs.Meaning.{View, Sound as SoundView, SameTerms, Served, Cleared, Laid}
-use Rattle.model.specs.Net.{Net, Sound, Timed, State, when, busy, ready, start, finish, tick, initial_state, run}
+use Rattle.policy.specs.Meaning.{Sound as SoundView, SameTerms, Served, Cleared, Laid}
+use Rattle.model.specs.Net.{Net, Sound, Timed, State, when, ready, start, finish, tick, initial_state}
 use Rattle.model.specs.Laws.{Due, Serves as ServesDue, Paced}
 use Rattle.model.proofs.Ready.{ready_true}
 use Rattle.model.proofs.Alikes.{paced_matches}

@@ -3,7 +3,7 @@ use Rattle.std.proofs.Common.{◌≡◌, ℕ, zero, suc, ◌+◌, ◌<◌, ◌�
 use Rattle.std.proofs.lemmas.Bool.Decides.{nat_tests}
 use Rattle.policy.specs.declared.meaning.Policy.{Ghosts}
 use Rattle.graph.specs.declared.graph.Graph.{Graph}
-use Rattle.model.specs.Net.{Net, State, Timed, when, busy, ready, start, ends, finish, tick, initial_state, run}
+use Rattle.model.specs.Net.{Net, State, when, busy, ready, start, ends, finish, tick, initial_state, run}
 use Rattle.model.specs.Likeness.{Matches}
 use Rattle.model.proofs.Ready.{ready_true}
 use Rattle.model.proofs.Alikes.{alike_trans, tick_matches}
@@ -12,7 +12,7 @@ use Rattle.runs.specs.Loops.{flag}
 use Rattle.runs.specs.Places.{Whole}
 use Rattle.runs.proofs.Graphs.{graph_fitting, graph_timed}
 use Rattle.runs.proofs.Places.{first_whole, tick_whole}
-use Rattle.bench.specs.Sharing.{Lays, newly, stand, many, ended_now, Begins, Stepped}
+use Rattle.bench.specs.Sharing.{Lays, newly, stand, many, Begins, Stepped}
 
 pub lays_same : {X : Type 0} (m : Ghosts X) (go go' : ℕ → Bool) (k : ℕ) (p q : X) → ((a : ℕ) → a < k → go a ≡ go' a) → Lays m go k p q → Lays m go' k p q
 lays_same m go go' zero p q e h = h

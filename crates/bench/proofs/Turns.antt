@@ -1,12 +1,12 @@
 -- Whatever a ring shares goes as on paper. Assumes nothing.
-use Rattle.std.proofs.Common.{◌≡◌, ℕ, zero, suc, ◌-◌, ◌<◌, ◌≤◌, Bool, true, false, cond, ◌&&◌, eqb, ltb, List, [], ◌∷◌, get_or, Some, None, Option, sym, refl, ap, ◌∙◌, subst, ap₂, inl, inr, arith}
-use Rattle.std.proofs.lemmas.Bool.{cases_eq, cases_Bool}
+use Rattle.std.proofs.Common.{◌≡◌, ℕ, zero, suc, ◌<◌, ◌≤◌, Bool, true, false, cond, ◌&&◌, eqb, ltb, List, [], ◌∷◌, get_or, Some, None, Option, sym, refl, ap, ◌∙◌, subst, ap₂, inl, inr, arith}
+use Rattle.std.proofs.lemmas.Bool.{cases_eq}
 use Rattle.std.proofs.lemmas.Bool.Decides.{nat_tests}
 use Rattle.policy.specs.Meaning.{layable}
 use Rattle.policy.specs.Turns.{next, RingMoves}
 use Rattle.policy.specs.declared.ring.Ring.{Ring}
 use Rattle.policy.specs.contracts.ring.RingPolicy.TheImpl.{ghosts}
-use Rattle.model.specs.Net.{Net, Sound, State, when, ready, start, finish, tick, initial_state, run}
+use Rattle.model.specs.Net.{Sound, State, when, ready, finish, initial_state}
 use Rattle.model.specs.Likeness.{Matches}
 use Rattle.model.proofs.Ready.{ready_true}
 use Rattle.model.proofs.Alikes.{alike_trans, ready_alike, finish_alike, tick_matches}

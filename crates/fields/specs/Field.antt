@@ -6,7 +6,7 @@
 --   field_of          the field at the front of some bytes, with its checks in order
 --   ReadIs, EndIs    the answers of `read` and `end`
 --   ValueIs          the answer of the search for a value
-use Rattle.std.specs.Prelude.{◌≡◌, ℕ, ◌+◌, ◌*◌, ◌<◌, ◌≤◌, List, ◌∷◌, ◌++◌, length, take, drop, Some, None, Ok, Err, Option, Result, ◌==◌, nat_le, slice_index}
+use Rattle.std.specs.Prelude.{◌≡◌, ℕ, ◌+◌, ◌*◌, ◌<◌, List, ◌∷◌, ◌++◌, length, take, drop, Some, None, Ok, Err, Option, Result, ◌==◌, nat_le, slice_index}
 use Rattle.std.specs.Borrow.{Bor}
 use Rattle.fields.specs.Checks.{check}
 use Rattle.fields.specs.declared.field.Kind.{Kind}

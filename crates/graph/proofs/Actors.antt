@@ -1,5 +1,5 @@
 -- An actor and a channel that are written are read.
-use Rattle.std.proofs.Common.{◌≡◌, ℕ, ◌+◌, ◌*◌, ◌/◌, ◌%◌, List, [], ◌∷◌, ◌++◌, length, get_or, take, Ok, Err, Result, sym, refl, ap, ◌∙◌, arith, lit≤, length-append}
+use Rattle.std.proofs.Common.{◌≡◌, ℕ, ◌+◌, ◌*◌, ◌/◌, ◌%◌, List, ◌++◌, length, get_or, take, Ok, refl, arith, lit≤, length-append}
 use Rattle.std.proofs.lemmas.List.{take_at, get_or-append_right}
 use Rattle.fields.specs.declared.field.Kind.TheVariants as kind
 use Rattle.fields.proofs.Frames.{reads}

@@ -1,5 +1,5 @@
 -- A file that is written is read.
-use Rattle.std.proofs.Common.{◌≡◌, ℕ, ◌+◌, ◌<◌, ◌≤◌, true, List, [], ◌∷◌, ◌++◌, length, get_or, take, Ok, Err, Result, sym, refl, ap, ◌∙◌, arith}
+use Rattle.std.proofs.Common.{◌≡◌, ℕ, ◌+◌, ◌<◌, ◌≤◌, true, List, [], ◌∷◌, ◌++◌, length, get_or, take, Ok, sym, refl, ap, ◌∙◌, arith}
 use Rattle.std.specs.List.{flat_map}
 use Rattle.std.proofs.lemmas.List.{append-nil, length-take-le, nil_from_length}
 use Rattle.std.proofs.lemmas.Bool.Decides.{nat_tests}
@@ -8,7 +8,6 @@ use Rattle.fields.proofs.Frames.{reads}
 use Rattle.graph.specs.declared.channel.Channel.{Channel}
 use Rattle.graph.specs.Channels.{blank, Ends, Every}
 use Rattle.graph.specs.declared.actor.Actor.{Actor}
-use Rattle.graph.specs.declared.fault.Fault.{Fault}
 use Rattle.graph.specs.declared.reading.Parts.{Parts}
 use Rattle.graph.specs.Rules.{headed, nobody, vacant, GoodActor, GoodActors, GoodChannel, GoodChannels}
 use Rattle.graph.specs.File.{head_bytes, head_of, actor_bytes, channel_bytes, written, one_actor, one_channel, many_of, end_of, channels_of, actors_of, file_of}

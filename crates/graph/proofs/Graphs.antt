@@ -1,5 +1,5 @@
 -- A graph's file is as long as its fields, and reads back as the graph.
-use Rattle.std.proofs.Common.{◌≡◌, ℕ, suc, ◌+◌, ◌-◌, ◌*◌, ◌<◌, ◌≤◌, true, List, [], ◌∷◌, ◌++◌, length, get_or, take, drop, replicate, Ok, Err, Result, sym, refl, ap, ◌∙◌, mul-suc, arith, length-append}
+use Rattle.std.proofs.Common.{◌≡◌, ℕ, suc, ◌+◌, ◌-◌, ◌*◌, ◌<◌, true, List, [], ◌∷◌, length, get_or, take, drop, replicate, Ok, Err, Result, sym, refl, ap, ◌∙◌, mul-suc, arith, length-append}
 use mathlib.Core.Logic.{∥∥₁_elim}
 use mathlib.Core.HLevel.{⊥_prop}
 use denote.Struct.Cover.{Cover, Cover-one}
@@ -9,8 +9,6 @@ use Rattle.std.proofs.lemmas.Bool.Decides.{nat_tests}
 use Rattle.graph.specs.contracts.actor.Actor as actor
 use Rattle.graph.specs.contracts.channel.Channel as channel
 use Rattle.graph.specs.contracts.graph.Graph as made
-use Rattle.graph.specs.declared.actor.Actor.{Actor}
-use Rattle.graph.specs.declared.channel.Channel.{Channel}
 use Rattle.graph.specs.declared.fault.Fault.{Fault}
 use Rattle.graph.specs.declared.fault.Fault.TheVariants.{Fields, Head, Name, Repeated, Time, End, Limit, Apart, Unbalanced}
 use Rattle.graph.specs.declared.graph.Graph.{Graph}

@@ -1,5 +1,5 @@
 -- What holds of every channel of a list. Assumes nothing.
-use Rattle.std.specs.Prelude.{◌≡◌, ℕ, ◌<◌, List, length, slice_index_or}
+use Rattle.std.specs.Prelude.{ℕ, ◌<◌, List, length, slice_index_or}
 use Rattle.graph.specs.declared.channel.Channel.{Channel}
 
 -- the channel that an unused place holds

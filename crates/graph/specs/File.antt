@@ -8,7 +8,7 @@
 --   head_of, actor_after, channel_at          one field read, with its checks in order
 --   many_of                                 so many of a kind
 --   end_of, channels_of, actors_of, file_of    the whole file
-use Rattle.std.specs.Prelude.{◌≡◌, ℕ, zero, suc, ◌+◌, ◌*◌, ◌/◌, ◌%◌, Bool, not, ◌&&◌, List, [], ◌∷◌, ◌++◌, length, take, Ok, Err, Result, ◌==◌, slice_index}
+use Rattle.std.specs.Prelude.{ℕ, zero, suc, ◌+◌, ◌*◌, ◌/◌, ◌%◌, not, List, [], ◌∷◌, ◌++◌, length, take, Ok, Err, Result, ◌==◌, slice_index}
 use Rattle.std.specs.List.{flat_map}
 use Rattle.fields.specs.Checks.{check, next}
 use Rattle.fields.specs.Field.{field_of, framed}

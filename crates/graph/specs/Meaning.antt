@@ -5,7 +5,7 @@
 --   Judged, ReadBy                  the answer of `read`, from what the file says
 --   ReadsBack                       the written graph reads back as that graph
 --   WriteIs, PutAllIs               the answers of `write`, and of writing parts one after another
-use Rattle.std.specs.Prelude.{◌≡◌, ℕ, ◌+◌, ◌<◌, ◌≤◌, List, ◌++◌, length, take, drop, Some, None, Ok, Err, Result}
+use Rattle.std.specs.Prelude.{◌≡◌, ℕ, ◌+◌, ◌<◌, List, ◌++◌, length, take, drop, Some, None, Ok, Err, Result}
 use Rattle.fields.specs.declared.fault.Fault.{Fault as FieldFault}
 use Rattle.fields.specs.declared.fault.Fault.TheVariants.{Small}
 use Rattle.fields.specs.Writing.{Placed}

@@ -11,7 +11,7 @@
 -- EndedOne    the actor's firing has ended, if it is over
 -- Ended       so have those of all below i
 -- Soonest     the least tick of an end among the actors below i
-use Rattle.std.specs.Prelude.{◌≡◌, ℕ, ◌+◌, ◌-◌, ◌*◌, ◌<◌, ◌≤◌, Bool, true, false, cond, ◌&&◌, ◌||◌, ◌⊎◌, List, length, ◌==◌, nat_lt}
+use Rattle.std.specs.Prelude.{◌≡◌, ℕ, ◌+◌, ◌-◌, ◌*◌, ◌<◌, ◌≤◌, Bool, true, cond, ◌&&◌, ◌||◌, ◌⊎◌, List, length, ◌==◌, nat_lt}
 use Rattle.model.specs.Net.{when}
 use Rattle.runs.specs.Loops.{flag}
 use Rattle.runs.specs.Seen.{at}

@@ -2,9 +2,9 @@
 use Rattle.std.proofs.Common.{◌≡◌, ℕ, zero, suc, ◌+◌, ◌-◌, ◌%◌, ◌<◌, ◌≤◌, Bool, true, false, not, ◌&&◌, eqb, ltb, List, sym, refl, ap, ◌∙◌, ap₂, inl, inr, add-zero, add-suc, arith}
 use Rattle.std.proofs.lemmas.Bool.{le-ltb}
 use Rattle.std.proofs.lemmas.Bool.Decides.{nat_tests}
-use Rattle.model.specs.Net.{Net, Sound, Timed, State, when, every, busy, lets, started, ready, start, ends, finish, tick, fallen, next, run}
-use Rattle.model.specs.Likeness.{Alike, Matches}
-use Rattle.model.specs.Rate.{Outcome, late, on, still, sample_due, says, rated}
+use Rattle.model.specs.Net.{Net, Sound, Timed, State, when, every, lets, started, ready, start, ends, finish, tick, fallen, next, run}
+use Rattle.model.specs.Likeness.{Matches}
+use Rattle.model.specs.Rate.{late, on, sample_due, says, rated}
 use Rattle.model.proofs.Alikes.{matches_trans, ready_alike, start_alike, tick_matches}
 use Rattle.model.proofs.Balance.{run_balanced}
 use Rattle.model.proofs.Runs.{run_again}

@@ -1,5 +1,5 @@
 -- Work ends by its due and not before its left, by the laws alone. Assumes nothing.
-use Rattle.std.proofs.Common.{◌≡◌, ℕ, zero, suc, ◌+◌, ◌<◌, ◌≤◌, sym, subst, ⊎_elim, arith}
+use Rattle.std.proofs.Common.{ℕ, ◌+◌, ◌<◌, ◌≤◌, sym, ⊎_elim, arith}
 use Rattle.std.proofs.lemmas.Bool.{cases_lt}
 use Rattle.policy.specs.declared.meaning.Policy.{Ghosts}
 use Rattle.policy.specs.Meaning.{Sound, Served, Laid}

@@ -1,11 +1,11 @@
 -- Free and ring have one outcome for each call. Assumes nothing.
-use Rattle.std.specs.Prelude.{◌≡◌, ℕ, zero, suc, ◌+◌, ◌-◌, Bool, true, false, cond, ltb, List, Some, None, Option, nat_lt, slice_index, slice_index_or, refl}
+use Rattle.std.specs.Prelude.{◌≡◌, ℕ, zero, suc, ◌-◌, Bool, cond, ltb, List, Some, None, Option, nat_lt, slice_index, slice_index_or, refl}
 use Rattle.std.proofs.Common.{sym, ap, subst, ◌∙◌, inl, inr}
 use Rattle.std.proofs.lemmas.Bool.{cases_eq}
 use Rattle.policy.specs.declared.rows.Rows.{Rows}
 use Rattle.policy.specs.Round.{after}
 use Rattle.policy.specs.Works.{RowsLaid, RowsCleared}
-use Rattle.policy.specs.Turns.{total, waiting, next, round, owed, RingMoves}
+use Rattle.policy.specs.Turns.{total, waiting, next, owed, RingMoves}
 use Rattle.policy.specs.declared.free.Free.{Free}
 use Rattle.policy.specs.Like.{RowsLike, RingLike}
 use Rattle.policy.specs.Members.{Exact, free, ring}

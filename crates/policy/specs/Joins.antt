@@ -4,7 +4,7 @@ use Rattle.std.proofs.Common.{sym, ap, subst, ◌∙◌, ⊎_elim, arith}
 use Rattle.std.proofs.lemmas.Bool.{cases_lt, le-leb, lt-leb, and_from, and_left, and_right, cond-true, cond-false}
 use Rattle.policy.specs.declared.pair.Side.{Side}
 use Rattle.policy.specs.declared.pair.Side.TheVariants.{First, Second}
-use Rattle.policy.specs.Meaning.{View, Sound, SameTerms, Served, Cleared, Laid, ShowsAt, Alike}
+use Rattle.policy.specs.Meaning.{View, Sound, SameTerms, Served, Cleared, Laid, ShowsAt}
 use Rattle.policy.specs.Join.{side, seen, joined, joined_at, PairMade, PairLays}
 
 module _ (n m a : ℕ) where

@@ -1,13 +1,13 @@
 -- Slice and pair have one outcome for each call where those below have. Assumes nothing.
-use Rattle.std.proofs.Common.{◌≡◌, ℕ, ◌+◌, ◌<◌, ◌≤◌, Bool, true, false, cond, leb, sym, refl, ap, ◌∙◌, subst, inl, inr, arith}
+use Rattle.std.proofs.Common.{◌≡◌, ℕ, ◌+◌, Bool, true, false, cond, leb, sym, refl, ap, ◌∙◌, subst, inl, inr, arith}
 use Rattle.std.proofs.lemmas.Bool.{cases_lt}
 use Rattle.policy.specs.declared.meaning.Policy.{Ghosts}
 use Rattle.policy.specs.declared.pair.Side.{Side}
 use Rattle.policy.specs.declared.pair.Side.TheVariants.{First, Second}
-use Rattle.policy.specs.Meaning.{View, Alike}
+use Rattle.policy.specs.Meaning.{Alike}
 use Rattle.policy.specs.Wheel.{wide, wait}
 use Rattle.policy.specs.Round.{after}
-use Rattle.policy.specs.Slices.{shown, SliceLays, SliceKeeps}
+use Rattle.policy.specs.Slices.{shown, SliceLays}
 use Rattle.policy.specs.Join.{side, seen, PairLays}
 use Rattle.policy.specs.Like.{SliceLike, PairLike}
 use Rattle.policy.specs.Members.{Exact, slice, pair}

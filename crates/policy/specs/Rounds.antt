@@ -1,7 +1,7 @@
 -- A ring keeps the meaning of a policy. Assumes nothing.
-use Rattle.std.proofs.Common.{◌≡◌, ℕ, zero, suc, ◌+◌, ◌-◌, ◌<◌, ◌≤◌, Bool, true, false, cond, ltb, ◌⊎◌, List, get_or, Some, None, Option, sym, refl, ap, ◌∙◌, subst, inl, inr, ⊎_elim, arith}
+use Rattle.std.proofs.Common.{◌≡◌, ℕ, zero, suc, ◌+◌, ◌-◌, ◌<◌, ◌≤◌, Bool, true, false, cond, ltb, List, get_or, Some, None, Option, sym, refl, ap, ◌∙◌, subst, ⊎_elim, arith}
 use Rattle.std.proofs.lemmas.Bool.{cases_lt, cases_eq, cases_Bool, both_ways, lt-ltb, le-ltb, cond-true, cond-false}
-use Rattle.policy.specs.Meaning.{View, Sound, SameTerms, Served}
+use Rattle.policy.specs.Meaning.{Sound, Served}
 use Rattle.policy.specs.Round.{after}
 use Rattle.policy.specs.Turns.{total, waiting, next, round, owed, ringed, RingServes, RingRests, RingMoves, RingTicks}
 use Rattle.policy.specs.Afters.{after_below}

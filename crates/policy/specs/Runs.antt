@@ -1,5 +1,5 @@
 -- What a policy goes through while an actor's work is served, and when that work ends.
-use Rattle.std.specs.Prelude.{◌≡◌, ℕ, zero, suc, ◌≤◌, ◌≢◌}
+use Rattle.std.specs.Prelude.{◌≡◌, ℕ, suc, ◌≤◌, ◌≢◌}
 use Rattle.policy.specs.declared.meaning.Policy.{Ghosts}
 
 -- t ticks from p on, others being laid at any time

@@ -1,7 +1,7 @@
 -- A slice keeps the meaning of the policy below. Assumes nothing.
 use Rattle.std.specs.Prelude.{◌≡◌, ℕ, ◌+◌, ◌<◌, ◌≤◌, Bool, true, false, cond, leb, nat_le, refl}
 use Rattle.std.proofs.Common.{sym, ap, subst, ◌∙◌, ⊎_elim, arith}
-use Rattle.std.proofs.lemmas.Bool.{cases_lt, cases_Bool, leb-true, leb-false, le-leb, lt-leb}
+use Rattle.std.proofs.lemmas.Bool.{cases_lt, cases_Bool, leb-true, le-leb, lt-leb}
 use Rattle.policy.specs.Round.{after}
 use Rattle.policy.specs.Meaning.{View, Sound, SameTerms, Served, Cleared, Laid}
 use Rattle.policy.specs.Wheel.{wide, wait}

@@ -1,5 +1,5 @@
 -- What holds of every wheel, and numbers worked out by the definitions.
-use Rattle.std.specs.Prelude.{◌≡◌, ℕ, ◌<◌, ◌≤◌, true, false, List, [], ◌∷◌, Some, None, Option}
+use Rattle.std.specs.Prelude.{◌≡◌, ℕ, ◌<◌, ◌≤◌, true, false, List, [], ◌∷◌, Some}
 use Rattle.policy.specs.Wheel.{wait, wide, Until, Longest}
 use Rattle.policy.specs.Turns.{next, owed}
 

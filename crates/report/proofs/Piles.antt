@@ -1,5 +1,5 @@
 -- A ring of a graph's times, and a slice of 2 in 5 over it.
-use Rattle.std.proofs.Common.{◌≡◌, ℕ, zero, suc, ◌+◌, ◌<◌, ◌≤◌, Bool, true, false, cond, ltb, leb, List, length, get_or, take, Ok, Err, sym, refl, ap, ◌∙◌, ⊎_elim, arith, lit<}
+use Rattle.std.proofs.Common.{◌≡◌, ℕ, zero, suc, ◌<◌, ◌≤◌, Bool, true, false, cond, ltb, List, length, get_or, take, Ok, Err, sym, refl, ap, ◌∙◌, ⊎_elim, arith, lit<}
 use Rattle.std.proofs.lemmas.List.{get_or_past, length-take-le, get_or-take}
 use Rattle.std.proofs.lemmas.Bool.{cases_lt, lt-ltb}
 use Rattle.std.proofs.lemmas.Bool.Decides.{nat_tests}
@@ -9,9 +9,8 @@ use Rattle.graph.specs.Rules.{nobody, timed}
 use Rattle.graph.specs.Meaning.{actors_in}
 use Rattle.graph.proofs.Graphs.{actors_are}
 use Rattle.model.specs.Net.{when}
-use Rattle.policy.specs.Meaning.{View}
-use Rattle.policy.specs.Slices.{shown, sliced, Sliceable, SliceChecked, TooLong}
-use Rattle.policy.specs.Turns.{total, ringed}
+use Rattle.policy.specs.Slices.{shown, Sliceable, SliceChecked, TooLong}
+use Rattle.policy.specs.Turns.{total}
 use Rattle.policy.specs.Wheel.{wide}
 use Rattle.policy.specs.Works.{Workable, RowsMade}
 use Rattle.policy.specs.declared.fault.Fault.{Fault}
@@ -19,10 +18,9 @@ use Rattle.policy.specs.declared.fault.Fault.TheVariants.{Crowd, Limits, Promise
 use Rattle.policy.specs.declared.ring.Ring.{Ring}
 use Rattle.policy.specs.contracts.ring.RingPolicy.TheImpl.{ghosts}
 use Rattle.policy.specs.declared.slice.Slice.{Slice}
-use Rattle.runs.specs.Seen.{net, at, times_of}
-use Rattle.rates.specs.Agree.{Agree, Agreed}
+use Rattle.runs.specs.Seen.{at, times_of}
 use Rattle.report.specs.Lines.{together, promised, promised_to}
-use Rattle.report.specs.Piles.{ring_seen, pile_seen, PileIs}
+use Rattle.report.specs.Piles.{ring_seen, PileIs}
 
 -- a sum goes by what is added
 total_together : (ws : List ℕ) (f : ℕ → ℕ) (k : ℕ) → ((a : ℕ) → a < k → get_or ws a 0 ≡ f a) → total ws k ≡ together f k

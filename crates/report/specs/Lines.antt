@@ -29,7 +29,6 @@ use Rattle.report.specs.declared.fault.Fault.{Fault}
 use Rattle.report.specs.declared.fault.Fault.TheVariants.{Graph, Policy, Bench}
 use Rattle.report.specs.declared.line.Report.{Report}
 use Rattle.report.specs.declared.line.Report.TheVariants.{Rated, Refused}
-use Rattle.report.specs.declared.line.Told.{Told}
 
 abbrev pub kept : Result Rate BenchFault → Result Rate Fault
 kept (Ok r) = Ok r

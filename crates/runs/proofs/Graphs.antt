@@ -8,7 +8,7 @@ use Rattle.graph.specs.declared.actor.Actor.{Actor}
 use Rattle.graph.specs.declared.channel.Channel.{Channel}
 use Rattle.graph.specs.declared.graph.Graph.{Graph}
 use Rattle.graph.specs.Channels.{blank}
-use Rattle.graph.specs.Rules.{nobody, limited, timed}
+use Rattle.graph.specs.Rules.{nobody}
 use Rattle.graph.specs.Meaning.{actors_in, channels_in}
 use Rattle.graph.specs.Piece.{Way, start, along, back}
 use Rattle.graph.proofs.Graphs.{actors_are, channels_are}

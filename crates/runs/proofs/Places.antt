@@ -3,7 +3,7 @@ use Rattle.std.proofs.Common.{◌≡◌, ℕ, ◌+◌, ◌<◌, ◌≤◌, Bool,
 use Rattle.std.proofs.lemmas.Bool.Decides.{nat_tests}
 use Rattle.graph.specs.declared.graph.Graph.{Graph}
 use Rattle.graph.specs.Meaning.{channels_in}
-use Rattle.model.specs.Net.{Net, Sound, Timed, State, when, busy, ready, start, ends, finish, tick, run}
+use Rattle.model.specs.Net.{Net, Sound, Timed, State, when, busy, ready, start, finish, tick, run}
 use Rattle.model.specs.Likeness.{Alike}
 use Rattle.model.proofs.Ready.{ready_true, has_tokens, has_places}
 use Rattle.model.proofs.Balance.{run_balanced, capacity_whole}

@@ -36,7 +36,7 @@ fn pair_reads_and_writes_back(rt: HostRuntime) -> Result<(), Fail> {
     let Ok(graph) = Graph::read(&PAIR) else {
         return Err(Fail::new("refused"));
     };
-    assert!(rt; graph.counts() == &[3, 2]);
+    assert!(rt; graph.counts() == [3, 2].as_slice());
     assert_eq!(rt; graph.actors().len(), 2);
     assert_eq!(rt; graph.channels().len(), 1);
     let mut out = [7; 44];

@@ -3,7 +3,7 @@ use Rattle.graph.specs.Meaning.{actors_in}
 use Rattle.model.specs.Net.{Net, run}
 use Rattle.model.specs.Likeness.{Matches}
 use Rattle.runs.specs.Seen.{at, state}
-use Rattle.runs.proofs.Graphs.{graph_fitting, over_graph}
+use Rattle.runs.proofs.Graphs.{over_graph}
 use Rattle.bench.specs.Sharing.{Lays, newly}
 use Rattle.bench.proofs.Sharings.{begins_done, zeros}
 use Rattle.bench.proofs.sharing.tick_zero.Goals as goal

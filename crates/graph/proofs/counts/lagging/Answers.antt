@@ -1,4 +1,4 @@
-use Rattle.std.proofs.Common.{◌≡◌, ℕ, ◌*◌, ◌<◌, ◌≤◌, List, sym, mul-le-mul_left, arith, rules}
+use Rattle.std.proofs.Common.{◌≡◌, ℕ, ◌*◌, ◌<◌, ◌≤◌, sym, mul-le-mul_left, arith}
 use native.Mathlib.Nat.{lt_of_mul-lt-mul_left}
 use Rattle.graph.proofs.counts.lagging.Goals as goal
 

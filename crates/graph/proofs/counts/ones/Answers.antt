@@ -1,4 +1,4 @@
-use Rattle.std.proofs.Common.{◌≡◌, ℕ, ◌<◌, ◌≢◌, length, set, refl, arith, get_or-set_other, get_or-set_same, rules, below_more}
+use Rattle.std.proofs.Common.{◌≡◌, ℕ, ◌<◌, ◌≢◌, length, set, arith, get_or-set_other, get_or-set_same, rules, below_more}
 use Rattle.graph.specs.Counts.{at}
 use Rattle.graph.proofs.counts.ones.Goals as goal
 

@@ -1,4 +1,3 @@
-use Rattle.std.proofs.Common.{◌≡◌, ℕ, ◌<◌, ◌≤◌, length}
 use Rattle.graph.specs.Counts.{Ones}
 use Rattle.graph.proofs.counts.ones.Given as goal
 

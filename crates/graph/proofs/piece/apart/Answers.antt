@@ -1,4 +1,3 @@
-use Rattle.std.proofs.Common.{rules}
 use Rattle.graph.proofs.Ways.{marked_apart}
 use Rattle.graph.proofs.piece.apart.Goals as goal
 

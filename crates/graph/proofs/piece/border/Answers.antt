@@ -1,4 +1,3 @@
-use Rattle.std.proofs.Common.{rules}
 use Rattle.graph.specs.Piece.{along, back}
 use Rattle.graph.proofs.piece.border.Goals as goal
 

@@ -1,4 +1,4 @@
-use Rattle.std.proofs.Common.{◌≡◌, ℕ, ◌-◌, true, cond, length, count_by}
+use Rattle.std.proofs.Common.{◌≡◌, ℕ, ◌-◌, true, length, count_by}
 use Rattle.graph.specs.Piece.{has, Way}
 use Rattle.graph.proofs.piece.joined.Given as goal
 

@@ -1,4 +1,4 @@
-use Rattle.std.proofs.Common.{◌≡◌, ◌+◌, length, take}
+use Rattle.std.proofs.Common.{◌≡◌, length, take}
 use Rattle.table.specs.Find.{Rises, Tops}
 use Rattle.graph.specs.declared.actor.NameRow.{NameRow}
 use Rattle.graph.specs.Rules.{nobody, vacant, names, GoodActor}

@@ -1,4 +1,4 @@
-use Rattle.std.proofs.Common.{ℕ, List, ◌++◌, sym, ap, ◌∙◌, rules}
+use Rattle.std.proofs.Common.{ℕ, List, ◌++◌, sym, ap, ◌∙◌}
 use Rattle.fields.specs.Field.{bytes_of, framed}
 use Rattle.fields.specs.declared.field.Kind.TheVariants as kind
 use Rattle.graph.proofs.reading.channel.Goals as goal

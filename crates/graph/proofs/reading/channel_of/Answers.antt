@@ -1,4 +1,4 @@
-use Rattle.std.proofs.Common.{◌≡◌, ◌+◌, ◌*◌, ◌/◌, ◌%◌, ◌<◌, length, get_or, refl, arith, rules}
+use Rattle.std.proofs.Common.{◌≡◌, ◌<◌, length, get_or, refl, rules}
 use Rattle.graph.proofs.Bytes.{listed, high, low}
 use Rattle.graph.proofs.reading.channel_of.Goals as goal
 

@@ -1,4 +1,4 @@
-use Rattle.std.proofs.Common.{◌+◌, length, take, arith, rules}
+use Rattle.std.proofs.Common.{◌+◌, take, arith}
 use Rattle.std.proofs.lemmas.List.{length-take-le}
 use Rattle.std.proofs.lemmas.Result.{err_from_is_err_and}
 use Rattle.graph.specs.Channels.{blank}

@@ -1,4 +1,4 @@
-use Rattle.std.proofs.Common.{sym, rules}
+use Rattle.std.proofs.Common.{sym}
 use Rattle.graph.proofs.Names.{is_found, is_absent}
 use Rattle.graph.proofs.reading.is_repeated.Goals as goal
 

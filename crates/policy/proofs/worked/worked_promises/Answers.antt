@@ -1,4 +1,4 @@
-use Rattle.std.proofs.Common.{◌≡◌, ℕ, zero, suc, ◌<◌, ◌≤◌, List, [], ◌∷◌, get_or, refl, ap, ◌∙◌, arith, lit<, lit≤}
+use Rattle.std.proofs.Common.{◌≡◌, ℕ, zero, suc, ◌<◌, ◌≤◌, get_or, refl, ap, ◌∙◌, arith, lit<, lit≤}
 use Rattle.policy.specs.declared.free.Free.{Free}
 use Rattle.policy.specs.Wheel.{wide}
 use Rattle.policy.specs.Slices.{shown, Sliceable}

@@ -1,4 +1,4 @@
-use Rattle.std.proofs.Common.{◌≡◌, ◌+◌, ◌≤◌, [], length, refl, ap, ◌∙◌, arith, rules}
+use Rattle.std.proofs.Common.{◌≡◌, ◌+◌, ◌≤◌, [], length, refl, ap, ◌∙◌, arith}
 use Rattle.fields.specs.declared.field.Kind.{Kind}
 use Rattle.fields.specs.Field.{size_of, kind_of, bytes_of, framed}
 use Rattle.fields.specs.Writing.{Placed}

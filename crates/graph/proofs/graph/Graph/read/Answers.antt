@@ -1,4 +1,4 @@
-use Rattle.std.proofs.Common.{refl, rules}
+use Rattle.std.proofs.Common.{refl}
 use native.Mathlib.Nat.{sub-zero}
 use Rattle.graph.proofs.Files.{stated_read, stated_actors, head_bounds}
 use Rattle.graph.proofs.graph.Graph.read.Goals as goal

@@ -1,4 +1,4 @@
-use Rattle.std.proofs.Common.{◌≡◌, ℕ, ◌+◌, ◌≤◌, List, ◌++◌, length, drop, Ok, refl, append_assoc, zero-add, arith, length-append, rules}
+use Rattle.std.proofs.Common.{◌≡◌, ℕ, ◌+◌, ◌≤◌, List, ◌++◌, length, drop, Ok, refl, append_assoc, zero-add, arith, length-append}
 use Rattle.std.specs.List.{flat_map}
 use Rattle.fields.specs.Writing.{Placed}
 use Rattle.fields.proofs.Placed.{placed_more}

@@ -1,4 +1,3 @@
-use Rattle.std.proofs.Common.{rules}
 use Rattle.graph.proofs.writing.ChannelPart.put.Goals as goal
 
 pub returns : goal.returns

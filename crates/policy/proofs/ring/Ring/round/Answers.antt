@@ -1,4 +1,4 @@
-use Rattle.std.proofs.Common.{◌≡◌, ◌-◌, sym, ap, ◌∙◌, arith}
+use Rattle.std.proofs.Common.{◌≡◌, ◌-◌, ap, arith}
 use Rattle.policy.specs.Turns.{works_to}
 use Rattle.policy.proofs.Steps.{works_to_last, works_to_passed}
 use Rattle.policy.proofs.ring.Ring.round.Goals as goal

@@ -1,6 +1,5 @@
 use Rattle.std.proofs.Common.{sym, ◌∙◌, arith}
 use Rattle.std.proofs.lemmas.Bool.{ltb-true}
-use Rattle.policy.specs.declared.ring.Ring.{Ring}
 use Rattle.policy.specs.Rounds.{next_has}
 use Rattle.policy.proofs.Rings.{table}
 use Rattle.policy.proofs.ring.RingPolicy.serve.Goals as goal
