@@ -8,4 +8,4 @@ mod calls;
 #[cfg(test)]
 mod files;
 #[cfg(test)]
-mod rates;
+mod rating;
