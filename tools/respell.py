@@ -17,7 +17,7 @@ APART = {"one-actor": "one_actor_lem", "one-channel": "one_channel_lem", "same_r
 ALIASES = ["nextState"] + [layer + part for layer in ("policy", "graph", "bench") for part in ("Place", "Number", "Layer")]
 ALIASES += ["placeBelow", "numberBelow"]
 
-DEFINED = re.compile(r"^\s*(?:abbrev |unfoldable |pub |record |data )*([A-Za-z][^\s:(){}.]*)\s*:\s*(.*)$")
+DEFINED = re.compile(r"^\s*(?:abbrev |unfoldable |pub )*(?:(?:record|data) ([^\s:(){}.]+).*|([A-Za-z][^\s:(){}.]*)\s*:\s*(.*))$")
 GENERATED = re.compile(r"(goal|need|Given)\.")
 TOKEN = re.compile(r"(?<![\w'\-])(?:(c|w)\.)?([A-Za-z][\w'\-]*)")
 
@@ -45,8 +45,9 @@ def renamed():
     for path in files(".antt"):
         for line in open(path, encoding="utf-8"):
             m = DEFINED.match(line)
-            if m and not GENERATED.search(m.group(2)):
-                found[m.group(1)] = spelled(m.group(1))
+            if m and not GENERATED.search(m.group(3) or ""):
+                name = m.group(1) or m.group(2)
+                found[name] = spelled(name)
     found |= {name: spelled(name) for name in ALIASES}
     return {old: new for old, new in found.items() if old != new}
 

@@ -1,7 +1,7 @@
 -- What the calls of a bench answer and leave, where `refused` is what the check of its join found. Assumes nothing.
 --
 -- look        what stands in a bench
--- graph_of     its graph
+-- graph_of    its graph
 -- Done        a tick that was done
 -- TickIs      a tick
 -- Begun       a restart that was done

@@ -1,15 +1,15 @@
 -- A run that a policy shares: ticks left are the policy's, and each start lays with it. Assumes nothing.
 --
--- Stand     what stands in a bench: the ticks done, what channels and actors hold, and the policy
--- stand     the same, from its parts
--- Asked     lay is asked for an actor: it is done where it can be, and else nothing changes
--- Lays      lay is asked for each actor below k that starts, in number order, and for no other
--- newly     a firing is under way where no ticks were left
--- Begins    tick 0, of join and restart
--- Ticks     a later tick
--- many      how many numbers below k pass a test
+-- Stand      what stands in a bench: the ticks done, what channels and actors hold, and the policy
+-- stand      the same, from its parts
+-- Asked      lay is asked for an actor: it is done where it can be, and else nothing changes
+-- Lays       lay is asked for each actor below k that starts, in number order, and for no other
+-- newly      a firing is under way where no ticks were left
+-- Begins     tick 0, of join and restart
+-- Ticks      a later tick
+-- many       how many numbers below k pass a test
 -- ended_now  how many firings end as a policy has their ticks left
--- Stepped   a later tick and how many firings ended in it, whatever its number
+-- Stepped    a later tick and how many firings ended in it, whatever its number
 use Rattle.std.specs.Prelude.{◌≡◌, ℕ, zero, suc, ◌+◌, Bool, true, false, ◌&&◌, ◌==◌}
 use Rattle.policy.specs.declared.meaning.Policy.{Ghosts}
 use Rattle.policy.specs.Meaning.{layable}

@@ -1,7 +1,7 @@
 -- What a bench has been through, call by call, and what is kept at each moment. Assumes nothing.
 --
 -- Serves    the serves since the last join or restart that was done, the most recent first: the policy before and after each
--- ended_by   the firings of an actor that the policy's left ended: the serves that brought it from above 0 to 0
+-- ended_by  the firings of an actor that the policy's left ended: the serves that brought it from above 0 to 0
 -- Kept      the tick number is how many serves there were; ticks left are the policy's; each count is what the policy's left
 --           ended, and lies between those of the promised and of the unhindered run at that tick
 -- InStep    a bench that was joined with a policy which the check accepts: what is kept, and the pace that keeps it

@@ -12,7 +12,7 @@ pub struct Bench<'g, P: Policy> {
     pub(crate) graph: &'g Graph,
     pub(crate) policy: P,
     pub(crate) run: Run,
-    // The ticks done since the last join or restart.
+    // The ticks done since the latest join or restart.
     pub(crate) tick: u32,
     // The lowest actor at which graph and policy do not agree, if any.
     pub(crate) refused: Option<u8>,

@@ -60,7 +60,7 @@ impl<'g, P: Policy> Bench<'g, P> {
         Ok((self.tick, ended))
     }
 
-    // How many firings of an actor have ended since the last join or restart.
+    // How many firings of an actor have ended since the latest join or restart.
     pub fn count(&self, a: u8) -> Result<u32, Fault>
         ensures { QuestionIs self.now.refused (net (graph_of self.now)).actors (state self.now.run).ended a result }
     {

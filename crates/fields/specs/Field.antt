@@ -2,10 +2,10 @@
 --
 --   tag_of, size_of    the tag and the length that each kind of field has
 --   kind_of, bytes_of  the kind of a field, and the bytes that it borrows
---   framed, written  a value behind its tag and length, and so a whole field
---   field_of          the field at the front of some bytes, with its checks in order
---   ReadIs, EndIs    the answers of `read` and `end`
---   ValueIs          the answer of the search for a value
+--   framed, written    a value behind its tag and length, and so a whole field
+--   field_of           the field at the front of some bytes, with its checks in order
+--   ReadIs, EndIs      the answers of `read` and `end`
+--   ValueIs            the answer of the search for a value
 use Rattle.std.specs.Prelude.{◌≡◌, ℕ, ◌+◌, ◌*◌, ◌<◌, List, ◌∷◌, ◌++◌, length, take, drop, Some, None, Ok, Err, Option, Result, ◌==◌, nat_le, slice_index}
 use Rattle.std.specs.Borrow.{Bor}
 use Rattle.fields.specs.Checks.{check}

@@ -1,13 +1,13 @@
 -- What a file says: actors and channels, or the first check that fails. Assumes nothing.
 --
---   two, number_at                          a number in two bytes, high byte first; the number at a place of a value
---   head_bytes, actor_bytes, channel_bytes    head, actor and channel as they are written
---   written                                a whole file
+--   two, number_at                           a number in two bytes, high byte first; the number at a place of a value
+--   head_bytes, actor_bytes, channel_bytes   head, actor and channel as they are written
+--   written                                  a whole file
 --   actor_of, channel_of                     what a value states
---   lift                                   a fault of the layer below, kept whole
---   head_of, actor_after, channel_at          one field read, with its checks in order
---   many_of                                 so many of a kind
---   end_of, channels_of, actors_of, file_of    the whole file
+--   lift                                     a fault of the layer below, kept whole
+--   head_of, actor_after, channel_at         one field read, with its checks in order
+--   many_of                                  so many of a kind
+--   end_of, channels_of, actors_of, file_of  the whole file
 use Rattle.std.specs.Prelude.{ℕ, zero, suc, ◌+◌, ◌*◌, ◌/◌, ◌%◌, not, List, [], ◌∷◌, ◌++◌, length, take, Ok, Err, Result, ◌==◌, slice_index}
 use Rattle.std.specs.List.{flat_map}
 use Rattle.fields.specs.Checks.{check, next}

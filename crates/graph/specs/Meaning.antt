@@ -1,10 +1,10 @@
 -- What reading and writing a graph answer. Assumes nothing.
 --
 --   actors_in, channels_in, counts_in  what a graph has
---   writing                         its file
---   Judged, ReadBy                  the answer of `read`, from what the file says
---   ReadsBack                       the written graph reads back as that graph
---   WriteIs, PutAllIs               the answers of `write`, and of writing parts one after another
+--   writing                            its file
+--   Judged, ReadBy                     the answer of `read`, from what the file says
+--   ReadsBack                          the written graph reads back as that graph
+--   WriteIs, PutAllIs                  the answers of `write`, and of writing parts one after another
 use Rattle.std.specs.Prelude.{◌≡◌, ℕ, ◌+◌, ◌<◌, List, ◌++◌, length, take, drop, Some, None, Ok, Err, Result}
 use Rattle.fields.specs.declared.fault.Fault.{Fault as FieldFault}
 use Rattle.fields.specs.declared.fault.Fault.TheVariants.{Small}

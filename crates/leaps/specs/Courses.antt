@@ -2,12 +2,12 @@
 --
 -- never       the tick of an end that is not to come
 -- idle        the actor has no firing under way
--- can_start    a woken actor is ready
+-- can_start   a woken actor is ready
 -- StartedOne  the actor has started, if it can
 -- Started     so have all below i
 -- Woken       an end has marked the actors below i that it may make ready
 -- Roomy       what an end gives finds room
--- is_over      the actor's firing ends at a tick
+-- is_over     the actor's firing ends at a tick
 -- EndedOne    the actor's firing has ended, if it is over
 -- Ended       so have those of all below i
 -- Soonest     the least tick of an end among the actors below i

@@ -1,8 +1,8 @@
 -- A graph's channels as the moves of its actors, and which actors an end may make ready. Assumes nothing.
 --
 -- other     the other end of a channel
--- actor_at   the actor at an end
--- rate_at    its rate there
+-- actor_at  the actor at an end
+-- rate_at   its rate there
 -- MovesOf   the stores of channels: tokens move at one end, free places at the other
 -- Wakes     an end of an actor may make itself ready, and the actors at the other ends of its channels
 -- PlanIs    the plan of so many actors with these channels

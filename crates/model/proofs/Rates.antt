@@ -6,7 +6,7 @@ use Rattle.std.proofs.lemmas.Bool.{cases_lt, cond_both, and_parts, and_cases, tr
 use Rattle.model.specs.Net.{Net, run}
 use Rattle.model.specs.Likeness.{Same}
 use Rattle.model.specs.Rate.{Answer, standstill, repeats, no_row, late, Verdict, Outcome, same, still, sample_due, first_same, sample_says, says, led, rated, rate_of, takes_row, answers, on}
-use Rattle.model.specs.Meaning.{Accepted, Repeats, Rate-means, RateHolds}
+use Rattle.model.specs.Meaning.{Accepted, Repeats, RateMeans, RateHolds}
 use Rattle.model.proofs.Runs.{run_rises, run_grows}
 use Rattle.model.proofs.Repeating.{repeating}
 use Rattle.model.proofs.Standing.{stands}
@@ -165,7 +165,7 @@ module _ (n : Net) (time reps : ℕ → ℕ) (ok : Accepted n time reps) (room :
   unfolding rate_of
   outcome_means last = means last 0 [] (record { within = omega arith; earlier = λ i lt. absurd (omega arith); sampled = λ i lt. absurd (omega arith); upto = refl })
 
-  rate_means : (o : Outcome) → Means o → Rate-means n time reps room o
+  rate_means : (o : Outcome) → Means o → RateMeans n time reps room o
   rate_means o h = record {
     repeating = repeats_on;
     standing = λ f e. stands n ok.sound time ok.timed f (still_true n (run n time f) (told (standstill f) e));

@@ -1,10 +1,10 @@
 -- Runs on paper, with what rate answers of each. Assumes nothing.
 --
--- table        a list as a table, 0 past its end
--- alone        one actor, no channel
--- chain        A to B, with an out-rate, an in-rate and a capacity
--- self         one actor with a channel to itself, 1:1, one token, and a capacity
--- answer_of    what rate answers with 256 rows and 10,000,000 for the last tick
+-- table       a list as a table, 0 past its end
+-- alone       one actor, no channel
+-- chain       A to B, with an out-rate, an in-rate and a capacity
+-- self        one actor with a channel to itself, 1:1, one token, and a capacity
+-- answer_of   what rate answers with 256 rows and 10,000,000 for the last tick
 -- WorkedRuns  the answers
 use Rattle.std.specs.Prelude.{◌≡◌, ℕ, List, [], ◌∷◌, slice_index}
 use Rattle.model.specs.Net.{Net}

@@ -8,7 +8,7 @@
 -- Legal      it keeps to tokens and places, one firing of an actor at a time, each so long or longer
 -- Eager      it starts whenever it can, and each firing takes so long or less
 -- Law        no legal behaviour is ahead of an eager one
--- RunFits   the run of a graph is both legal and eager
+-- RunFits    the run of a graph is both legal and eager
 -- Ahead      one state has started more, or as much and has no more ticks to go
 -- Paced      a shared run at a tick: not ahead of the unhindered run, nor behind the promised one
 -- Due        what a policy keeps of the ticks due

@@ -1,12 +1,12 @@
 -- What rate's answers mean of the whole run, for ever. Assumes nothing.
 --
--- Joined      channels, taken without direction, lead from actor 0 to the actor, by some way
--- Balances    so many firings of each actor leave every channel's tokens as they were
--- Accepted    a graph in one piece, with times and repetition counts
--- Repeats     from tick f on, any d ticks see m times the repetition counts, and so for ever
--- Stands      from tick f on nothing is under way, and nothing starts or ends
--- Ceases      from some tick on no count rises
--- Rate-means  what each answer says of the run, and each row taken
+-- Joined     channels, taken without direction, lead from actor 0 to the actor, by some way
+-- Balances   so many firings of each actor leave every channel's tokens as they were
+-- Accepted   a graph in one piece, with times and repetition counts
+-- Repeats    from tick f on, any d ticks see m times the repetition counts, and so for ever
+-- Stands     from tick f on nothing is under way, and nothing starts or ends
+-- Ceases     from some tick on no count rises
+-- RateMeans  what each answer says of the run, and each row taken
 -- RateHolds  rate's outcome means that, of every accepted graph
 use Rattle.std.specs.Prelude.{◌≡◌, ℕ, ◌+◌, ◌*◌, ◌<◌, ◌≤◌, length, ◌≢◌, slice_index}
 use Rattle.model.specs.Net.{Net, Sound, Timed, run}
@@ -40,7 +40,7 @@ Stands n time f = (t a : ℕ) → f ≤ t → a < n.actors → ((run n time t).l
 abbrev pub Ceases : Net → (ℕ → ℕ) → Type 0
 Ceases n time = (f : ℕ) × ((t a : ℕ) → f ≤ t → a < n.actors → (run n time t).ended a ≡ (run n time f).ended a)
 
-pub record Rate-means (n : Net) (time reps : ℕ → ℕ) (room : ℕ) (o : Outcome) : Type 0 where
+pub record RateMeans (n : Net) (time reps : ℕ → ℕ) (room : ℕ) (o : Outcome) : Type 0 where
   pub repeating : (f d m : ℕ) → o.answer ≡ repeats f d m → Repeats n time reps f d m
   pub standing : (f : ℕ) → o.answer ≡ standstill f → Stands n time f
   pub ceasing : Ceases n time → (f d m : ℕ) → o.answer ≢ repeats f d m
@@ -49,4 +49,4 @@ pub record Rate-means (n : Net) (time reps : ℕ → ℕ) (room : ℕ) (o : Outc
   pub sampled : (i : ℕ) → i < length o.taken → (run n time (slice_index o.taken i)).ended 0 ≡ i * reps 0
 
 abbrev pub RateHolds : Type 0
-RateHolds = (n : Net) (time reps : ℕ → ℕ) → Accepted n time reps → (room last : ℕ) → Rate-means n time reps room (rate_of n time (reps 0) room last)
+RateHolds = (n : Net) (time reps : ℕ → ℕ) → Accepted n time reps → (room last : ℕ) → RateMeans n time reps room (rate_of n time (reps 0) room last)

@@ -2,3 +2,4 @@ pub mod Listed
 pub mod Rowed
 pub mod Going
 pub mod Agreements
+pub mod Fastest

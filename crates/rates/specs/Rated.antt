@@ -2,7 +2,7 @@
 use Rattle.std.specs.Prelude.{◌≡◌, ℕ, List, length, Err, Result}
 use Rattle.policy.specs.Meaning.{View}
 use Rattle.graph.specs.declared.graph.Graph.{Graph}
-use Rattle.model.specs.Meaning.{Rate-means}
+use Rattle.model.specs.Meaning.{RateMeans}
 use Rattle.runs.specs.Seen.{net, times_of, reps_of}
 use Rattle.rates.specs.declared.fault.Fault.{Fault}
 use Rattle.rates.specs.declared.fault.Fault.TheVariants.{Works}
@@ -14,7 +14,7 @@ use Rattle.rates.specs.Agree.{Agreed, Differ}
 -- of a graph's run with a table of times: the model's outcome, its rows, and what these mean for ever
 pub record RunRated (g : Graph) (time : ℕ → ℕ) (rows rows' : List Sample) (r : Result Rate Fault) : Type 0 where
   pub value : Rated (net g) time (reps_of g 0) rows rows' r
-  pub means : Rate-means (net g) time (reps_of g) (length rows) (outcome (net g) time (reps_of g 0) rows)
+  pub means : RateMeans (net g) time (reps_of g) (length rows) (outcome (net g) time (reps_of g 0) rows)
 
 -- of the run with a policy's promises, where its works are the graph's times; else it is refused, and no row is touched
 pub record PromisedRated (g : Graph) (v : View) (rows rows' : List Sample) (r : Result Rate Fault) : Type 0 where

@@ -1,6 +1,6 @@
 -- What rate answers, what it leaves in the rows, and that nothing is faster. Assumes nothing.
 --
--- last_tick    the last tick that a run is followed to
+-- last_tick   the last tick that a run is followed to
 -- outcome     the outcome of a run with a table of times, for these rows
 -- told        an answer, as the program gives it
 -- Rated       what rate answers and leaves

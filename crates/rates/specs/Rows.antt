@@ -1,12 +1,12 @@
 -- The rows that rate leaves. Assumes nothing.
 --
 -- same_row  the same tokens and ticks left
--- Rising   the ticks of the first rows never fall from row to row
--- Upto     and none of them is after a tick
--- listed   a table's first numbers, then zeros, as a list of some size
+-- Rising    the ticks of the first rows never fall from row to row
+-- Upto      and none of them is after a tick
+-- listed    a table's first numbers, then zeros, as a list of some size
 -- row_of    the row of a state at a tick
 -- row_at    the row of a run at a tick
--- leaves   the rows of the ticks taken, then the rows that stay
+-- leaves    the rows of the ticks taken, then the rows that stay
 use Rattle.std.specs.Prelude.{ℕ, Bool, ◌&&◌, List, ◌++◌, map, length, drop, nat_lt}
 use Rattle.std.specs.List.{range_with_len}
 use Rattle.std.specs.Str.{bytes_eq}

@@ -1,7 +1,7 @@
 // Rate: from when on a run repeats, how often and how much, or when it comes to a standstill.
 ghost use Rattle.std.specs.Prelude.{◌≡◌, ◌%◌, ◌<◌, ◌≤◌, ◌&&◌, length, ◌==◌, slice_index_or};
 ghost use Rattle.model.specs.Likeness.{Matches};
-ghost use Rattle.model.specs.Meaning.{«Rate-means» as RateMeans};
+ghost use Rattle.model.specs.Meaning.{RateMeans};
 ghost use Rattle.model.specs.Net.{Timed, ends, fallen, next as next_state};
 ghost use Rattle.runs.specs.Loops.{Fitting, Roomy, Countable};
 ghost use Rattle.runs.specs.Seen.{net_of, net, at, times_of, reps_of, state};
@@ -149,7 +149,7 @@ pub fn unhindered_rate(graph: &Graph, rows: &mut [Sample]) -> Result<Rate, Fault
     ensures after { rows.new ≡ leaves (net graph.now) (times_of graph.now) (unhindered graph.now rows.old).taken rows.old }
     ensures rising { Rising rows.new (length (unhindered graph.now rows.old).taken) }
     ensures means { RateMeans (net graph.now) (times_of graph.now) (reps_of graph.now) (length rows.old) (unhindered graph.now rows.old) }
-    ensures unbeaten { Unbeaten graph.now }
+    ensures fastest { Unbeaten graph.now }
 {
     rate_with(graph, &times(graph), rows)
 }

@@ -1,15 +1,15 @@
 -- What is reported of a file, and how it is printed. Assumes nothing.
 --
--- kept        an answer with a fault of the bench kept whole
--- rated       what rate answers of a graph's run with a table of times, with 256 rows
+-- kept         an answer with a fault of the bench kept whole
+-- rated        what rate answers of a graph's run with a table of times, with 256 rows
 -- rate_in      of the unhindered run
--- together    the sum of so many numbers of a table
--- promised    the promise of every actor in a slice of 2 in 5 over a ring of all
+-- together     the sum of so many numbers of a table
+-- promised     the promise of every actor in a slice of 2 in 5 over a ring of all
 -- promised_to  the same as a table
 -- held_in      what rate answers of the run with those promises; refused where they are over 65,535
--- AcceptedIs  what reading the file answers
--- ReportIs    the report on a file
--- printed     an answer as it is printed
+-- AcceptedIs   what reading the file answers
+-- ReportIs     the report on a file
+-- printed      an answer as it is printed
 -- shown_of     a report as it is printed
 use Rattle.std.specs.Prelude.{◌≡◌, ℕ, zero, suc, ◌+◌, cond, List, ◌++◌, Ok, Err, codes, decimal, Result, nat_le, nat_lt}
 use Rattle.model.specs.Net.{when}

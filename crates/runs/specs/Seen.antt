@@ -2,12 +2,12 @@
 --
 -- channel_at  a channel by its number, zeros past the last
 -- net_of      so many actors with these channels
--- net        a graph
--- at         a list as a table, 0 past its end
+-- net         a graph
+-- at          a list as a table, 0 past its end
 -- times_of    the graph's table of times
 -- reps_of     its repetition counts
--- state      what stands in a run
--- taken      new ticks left, of the firings under way
+-- state       what stands in a run
+-- taken       new ticks left, of the firings under way
 use Rattle.std.specs.Prelude.{ℕ, cond, List, length, get_or, slice_index, slice_index_or}
 use Rattle.model.specs.Net.{Net, State, busy}
 use Rattle.graph.specs.declared.channel.Channel.{Channel}

@@ -56,5 +56,5 @@ returns g c =
       graph = c.loop-i.invariant.0;
       unhindered = record { value = record { value = rate.value; after = rate.after; rising = rate.rising }; means = rate.means };
       promised = c.promised_rate-promised.ensures;
-      fastest = rate.unbeaten;
+      fastest = rate.fastest;
     }

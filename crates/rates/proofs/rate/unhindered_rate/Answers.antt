@@ -1,10 +1,10 @@
 use Rattle.std.proofs.Common.{length}
 use Rattle.model.proofs.Rates.{rate_holds}
-use Rattle.model.proofs.Schedules.{no_faster}
 use Rattle.runs.specs.Seen.{net, times_of, reps_of}
-use Rattle.runs.proofs.Graphs.{graph_accepted, graph_fitting, graph_timed}
+use Rattle.runs.proofs.Graphs.{graph_accepted, graph_timed}
 use Rattle.rates.specs.Rates.{last_tick}
 use Rattle.rates.proofs.Going.{rated_as}
+use Rattle.rates.proofs.Fastest.{graph_unbeaten}
 use Rattle.rates.proofs.rate.unhindered_rate.Goals as goal
 
 pub returns : goal.returns
@@ -16,5 +16,5 @@ returns c =
       after = r.after;
       rising = r.rising;
       means = rate_holds (net g) (times_of g) (reps_of g) (graph_accepted g (times_of g) (graph_timed g)) (length c.args.rows.now) last_tick;
-      unbeaten = λ s ok a k ha has. no_faster (net g) (times_of g) s (graph_fitting g).sound (graph_timed g) ok a k ha has;
+      fastest = graph_unbeaten g;
     }
