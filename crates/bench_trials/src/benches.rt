@@ -3,7 +3,6 @@ use bench::{Bench, Fault};
 use policy::{Free, Pair, Policy, Ring, Slice};
 use policy_trials::Blink;
 use std::alloc::Global;
-use std::process::Abort;
 use std::test::Fail;
 
 pub fn ticked<P: Policy>(bench: &mut Bench<'_, P>) -> Result<(u32, u8), Fail> {
@@ -21,36 +20,26 @@ pub fn counted<P: Policy>(bench: &Bench<'_, P>, a: u8) -> Result<u32, Fail> {
 }
 
 // Ticks to a tick number, and then two counts.
-pub fn counts_at<P: Policy>(
-    rt: &impl Abort,
-    bench: &mut Bench<'_, P>,
-    to: u32,
-    a: u32,
-    b: u32,
-) -> Result<(), Fail> {
+pub fn counts_at<P: Policy>(bench: &mut Bench<'_, P>, to: u32, a: u32, b: u32) -> Result<(), Fail> {
     for _ in 0..20u8 {
         let (tick, _) = ticked(bench)?;
         if tick == to {
-            assert_eq!(rt; counted(bench, 0)?, a);
-            assert_eq!(rt; counted(bench, 1)?, b);
+            if counted(bench, 0)? != a || counted(bench, 1)? != b {
+                return Err(Fail::new("other counts"));
+            }
             return Ok(());
         }
     }
     Err(Fail::new("not reached"))
 }
 
-pub fn refused<T: Drop>(
-    rt: &impl Abort,
-    answer: Result<T, Fault>,
-    number: u8,
-    place: u8,
-) -> Result<(), Fail> {
+pub fn refused<T: Drop>(answer: Result<T, Fault>, number: u8, place: u8) -> Result<(), Fail> {
     match answer {
         Ok(_) => Err(Fail::new("answered")),
         Err(fault) => {
-            assert!(rt; fault.layer() == "bench");
-            assert_eq!(rt; fault.number(), number);
-            assert_eq!(rt; fault.place(), place);
+            if fault.layer() != "bench" || fault.number() != number || fault.place() != place {
+                return Err(Fail::new("another refusal"));
+            }
             Ok(())
         }
     }
@@ -66,7 +55,6 @@ fn promises<P: Policy>(policy: &P) -> [u16; 16] {
 
 // Compares the counts of a bench with those of the two runs, each shown by a bench of its own.
 fn lies_between<P: Policy + Drop>(
-    rt: &impl Abort,
     heap: Global,
     times: &[u16],
     lines: &[Line],
@@ -84,12 +72,14 @@ fn lies_between<P: Policy + Drop>(
     let mut promised = Bench::join(&slow, Free::new(promises));
     for _ in 0..200u8 {
         let at = ticked(&mut shared)?;
-        assert_eq!(rt; ticked(&mut unhindered)?.0, at.0);
-        assert_eq!(rt; ticked(&mut promised)?.0, at.0);
+        if ticked(&mut unhindered)?.0 != at.0 || ticked(&mut promised)?.0 != at.0 {
+            return Err(Fail::new("another tick"));
+        }
         for a in 0..times.len() as u8 {
             let count = counted(&shared, a)?;
-            assert!(rt; counted(&promised, a)? <= count);
-            assert!(rt; count <= counted(&unhindered, a)?);
+            if counted(&promised, a)? > count || count > counted(&unhindered, a)? {
+                return Err(Fail::new("not between"));
+            }
         }
     }
     Ok(())
@@ -100,19 +90,19 @@ const CHAIN: [Line; 2] = [Line(0, 1, 1, 1, 2, 0), Line(1, 2, 2, 1, 3, 0)];
 #[test]
 fn slice_over_pair(rt: HostRuntime) -> Result<(), Fail> {
     let pile = Slice::new(Pair::new(Ring::new(&[2, 3]), Free::new(&[4])), 5, 2);
-    lies_between(&rt, rt.alloc(), &[2, 3, 4], &CHAIN, pile)
+    lies_between(rt.alloc(), &[2, 3, 4], &CHAIN, pile)
 }
 
 #[test]
 fn slice_over_slice(rt: HostRuntime) -> Result<(), Fail> {
     let pile = Slice::new(Slice::new(Ring::new(&[2, 3]), 3, 2), 4, 3);
-    lies_between(&rt, rt.alloc(), &[2, 3], &[Line(0, 1, 2, 3, 4, 1)], pile)
+    lies_between(rt.alloc(), &[2, 3], &[Line(0, 1, 2, 3, 4, 1)], pile)
 }
 
 #[test]
 fn a_strangers_policy(rt: HostRuntime) -> Result<(), Fail> {
     let pile = Pair::new(Blink::new(2), Free::new(&[3]));
-    lies_between(&rt, rt.alloc(), &[2, 3], &[Line(0, 1, 1, 1, 2, 0)], pile)
+    lies_between(rt.alloc(), &[2, 3], &[Line(0, 1, 1, 1, 2, 0)], pile)
 }
 
 // A served wheel that waits, and a ring in the middle of a turn, before they are joined.
@@ -128,9 +118,9 @@ fn a_used_policy(rt: HostRuntime) -> Result<(), Fail> {
     for _ in 0..3u8 {
         again.serve();
     }
-    lies_between(&rt, rt.alloc(), &[2, 3], &[Line(0, 1, 1, 1, 2, 0)], again)?;
+    lies_between(rt.alloc(), &[2, 3], &[Line(0, 1, 1, 1, 2, 0)], again)?;
     let graph = graph(rt.alloc(), &[2, 3], &[Line(0, 1, 1, 1, 2, 0)])?;
     let mut bench = Bench::join(&graph, pile);
-    counts_at(&rt, &mut bench, 3, 0, 0)?;
-    counts_at(&rt, &mut bench, 4, 1, 0)
+    counts_at(&mut bench, 3, 0, 0)?;
+    counts_at(&mut bench, 4, 1, 0)
 }

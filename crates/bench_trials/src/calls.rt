@@ -1,8 +1,8 @@
 use crate::benches::{counted, counts_at, refused, ticked};
 use crate::files::{Line, graph};
-use bench::{Answer, Bench, Call, LAST_TICK, Rate, Sample, follow, promised_rate};
+use crate::rating::repeats;
+use bench::{Answer, Bench, Call, LAST_TICK, Sample, follow, promised_rate};
 use policy::{Free, Policy, Ring, Slice};
-use std::process::Abort;
 use std::test::Fail;
 
 // Under a ring A ends at 2, 7 and 12, and B at 5 and 10.
@@ -10,16 +10,16 @@ use std::test::Fail;
 fn goes_round(rt: HostRuntime) -> Result<(), Fail> {
     let graph = graph(rt.alloc(), &[2, 3], &[Line(0, 1, 1, 1, 2, 0)])?;
     let mut bench = Bench::join(&graph, Ring::new(&[2, 3]));
-    counts_at(&rt, &mut bench, 1, 0, 0)?;
-    counts_at(&rt, &mut bench, 2, 1, 0)?;
-    counts_at(&rt, &mut bench, 4, 1, 0)?;
-    counts_at(&rt, &mut bench, 5, 1, 1)?;
-    counts_at(&rt, &mut bench, 6, 1, 1)?;
-    counts_at(&rt, &mut bench, 7, 2, 1)?;
-    counts_at(&rt, &mut bench, 9, 2, 1)?;
-    counts_at(&rt, &mut bench, 10, 2, 2)?;
-    counts_at(&rt, &mut bench, 11, 2, 2)?;
-    counts_at(&rt, &mut bench, 12, 3, 2)
+    counts_at(&mut bench, 1, 0, 0)?;
+    counts_at(&mut bench, 2, 1, 0)?;
+    counts_at(&mut bench, 4, 1, 0)?;
+    counts_at(&mut bench, 5, 1, 1)?;
+    counts_at(&mut bench, 6, 1, 1)?;
+    counts_at(&mut bench, 7, 2, 1)?;
+    counts_at(&mut bench, 9, 2, 1)?;
+    counts_at(&mut bench, 10, 2, 2)?;
+    counts_at(&mut bench, 11, 2, 2)?;
+    counts_at(&mut bench, 12, 3, 2)
 }
 
 // The turn that the restart cuts short was A's, so the next is B's.
@@ -27,10 +27,10 @@ fn goes_round(rt: HostRuntime) -> Result<(), Fail> {
 fn restarts_in_a_turn(rt: HostRuntime) -> Result<(), Fail> {
     let graph = graph(rt.alloc(), &[2, 3], &[Line(0, 1, 1, 1, 2, 1)])?;
     let mut bench = Bench::join(&graph, Ring::new(&[2, 3]));
-    counts_at(&rt, &mut bench, 1, 0, 0)?;
+    counts_at(&mut bench, 1, 0, 0)?;
     assert!(rt; bench.restart().is_ok());
-    counts_at(&rt, &mut bench, 2, 0, 0)?;
-    counts_at(&rt, &mut bench, 3, 0, 1)?;
+    counts_at(&mut bench, 2, 0, 0)?;
+    counts_at(&mut bench, 3, 0, 1)?;
     assert!(rt; bench.restart().is_ok());
     assert_eq!(rt; counted(&bench, 1)?, 0);
     assert_eq!(rt; ticked(&mut bench)?.0, 1);
@@ -42,30 +42,30 @@ fn restarts_in_a_turn(rt: HostRuntime) -> Result<(), Fail> {
 fn refused_in_between(rt: HostRuntime) -> Result<(), Fail> {
     let graph = graph(rt.alloc(), &[2, 3], &[Line(0, 1, 1, 1, 2, 0)])?;
     let mut bench = Bench::join(&graph, Ring::new(&[2, 3]));
-    counts_at(&rt, &mut bench, 2, 1, 0)?;
-    refused(&rt, bench.count(2), 19, 0)?;
-    refused(&rt, bench.count(16), 19, 0)?;
-    refused(&rt, bench.tokens(1), 19, 0)?;
-    refused(&rt, bench.due(255), 19, 0)?;
-    counts_at(&rt, &mut bench, 5, 1, 1)
+    counts_at(&mut bench, 2, 1, 0)?;
+    refused(bench.count(2), 19, 0)?;
+    refused(bench.count(16), 19, 0)?;
+    refused(bench.tokens(1), 19, 0)?;
+    refused(bench.due(255), 19, 0)?;
+    counts_at(&mut bench, 5, 1, 1)
 }
 
 // Works against times: the lowest actor concerned.
 #[test]
 fn refused_joins(rt: HostRuntime) -> Result<(), Fail> {
     let graph = graph(rt.alloc(), &[2, 3], &[Line(0, 1, 1, 1, 2, 0)])?;
-    refused(&rt, Bench::check(&graph, &Ring::new(&[2, 4])), 16, 1)?;
-    refused(&rt, Bench::check(&graph, &Free::new(&[1, 4])), 16, 0)?;
-    refused(&rt, Bench::check(&graph, &Free::new(&[2])), 16, 1)?;
-    refused(&rt, Bench::check(&graph, &Free::new(&[2, 3, 4])), 16, 2)?;
-    refused(&rt, Bench::check(&graph, &Free::new(&[])), 16, 0)?;
+    refused(Bench::check(&graph, &Ring::new(&[2, 4])), 16, 1)?;
+    refused(Bench::check(&graph, &Free::new(&[1, 4])), 16, 0)?;
+    refused(Bench::check(&graph, &Free::new(&[2])), 16, 1)?;
+    refused(Bench::check(&graph, &Free::new(&[2, 3, 4])), 16, 2)?;
+    refused(Bench::check(&graph, &Free::new(&[])), 16, 0)?;
     assert!(rt; Bench::check(&graph, &Free::new(&[2, 3])).is_ok());
     let mut bench = Bench::join(&graph, Free::new(&[2, 3, 4]));
-    refused(&rt, bench.tick(), 16, 2)?;
-    refused(&rt, bench.count(16), 16, 2)?;
-    refused(&rt, bench.tokens(0), 16, 2)?;
-    refused(&rt, bench.due(0), 16, 2)?;
-    refused(&rt, bench.restart(), 16, 2)
+    refused(bench.tick(), 16, 2)?;
+    refused(bench.count(16), 16, 2)?;
+    refused(bench.tokens(0), 16, 2)?;
+    refused(bench.due(0), 16, 2)?;
+    refused(bench.restart(), 16, 2)
 }
 
 #[test]
@@ -75,7 +75,7 @@ fn last_tick(rt: HostRuntime) -> Result<(), Fail> {
     for _ in 0..LAST_TICK {
         let _ = ticked(&mut bench)?;
     }
-    refused(&rt, bench.tick(), 18, 0)?;
+    refused(bench.tick(), 18, 0)?;
     assert_eq!(rt; counted(&bench, 0)?, 3_333_333);
     assert!(rt; bench.restart().is_ok());
     assert_eq!(rt; ticked(&mut bench)?.0, 1);
@@ -128,32 +128,8 @@ fn follows(rt: HostRuntime) -> Result<(), Fail> {
     for i in 0..13 {
         assert_eq!(rt; number(answers[i]), expected[i]);
     }
-    repeats(&rt, report.unhindered, 4, 3, 1)?;
-    repeats(&rt, report.promised, 4, 3, 1)
-}
-
-fn repeats(
-    rt: &impl Abort,
-    answer: Result<Rate, bench::Fault>,
-    f: u32,
-    d: u32,
-    m: u32,
-) -> Result<(), Fail> {
-    match answer {
-        Ok(
-            Rate::Repeats {
-                f: from,
-                d: every,
-                m: many,
-            },
-        ) => {
-            assert_eq!(rt; from, f);
-            assert_eq!(rt; every, d);
-            assert_eq!(rt; many, m);
-            Ok(())
-        }
-        _ => Err(Fail::new("does not repeat")),
-    }
+    repeats(report.unhindered, 4, 3, 1)?;
+    repeats(report.promised, 4, 3, 1)
 }
 
 // A slice of 2 in 5 over a ring promises 9 ticks to each.
@@ -162,7 +138,6 @@ fn promised(rt: HostRuntime) -> Result<(), Fail> {
     let graph = graph(rt.alloc(), &[1, 2], &[Line(0, 1, 2, 3, 4, 0)])?;
     let mut rows = [Sample::BLANK; 8];
     repeats(
-        &rt,
         promised_rate(&graph, &Slice::new(Ring::new(&[1, 2]), 5, 2), &mut rows),
         36,
         45,
@@ -174,7 +149,6 @@ fn promised(rt: HostRuntime) -> Result<(), Fail> {
         tick: 9,
     }; 1];
     refused(
-        &rt,
         promised_rate(&graph, &Ring::new(&[2, 2]), &mut untouched),
         16,
         0,

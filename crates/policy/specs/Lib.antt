@@ -12,7 +12,7 @@ pub mod Runs
 pub mod Exacts
 pub mod Members
 pub mod Joins
-pub mod SlicesLemmas
+pub mod Sliced
 pub mod Wheels
 pub mod Afters
 pub mod Waits

@@ -2,7 +2,7 @@ ghost use Rattle.policy.specs.Meaning.{Alike};
 ghost use Rattle.policy.specs.Like.{RowsLike, RingLike, SliceLike, PairLike};
 ghost use Rattle.std.specs.Prelude.{ℕ, refl};
 ghost use Rattle.policy.specs.Exacts.{free_exact, ring_exact};
-ghost use Rattle.policy.specs.Members.{slice, pair};
+ghost use Rattle.policy.specs.Members.{free, ring, slice, pair};
 ghost use Rattle.policy.specs.Overs.{outcomes, shows, slice_exact, pair_exact};
 
 use crate::free::Free;
@@ -31,11 +31,7 @@ impl Exact for Free {
 
     ghost same = { free_exact.same };
 
-    ghost shown = { λ p q e.
-        record {
-          number = free_exact.number p q e;
-          each = λ a. record { work = free_exact.work p q e a; promise = free_exact.promise p q e a; left = free_exact.left p q e a; due = free_exact.due p q e a };
-        } };
+    ghost shown = { shows free (λ p q. RowsLike p.rows q.rows) free_exact };
 
     ghost ticking = { free_exact.ticks };
 
@@ -49,11 +45,7 @@ impl Exact for Ring {
 
     ghost same = { ring_exact.same };
 
-    ghost shown = { λ p q e.
-        record {
-          number = ring_exact.number p q e;
-          each = λ a. record { work = ring_exact.work p q e a; promise = ring_exact.promise p q e a; left = ring_exact.left p q e a; due = ring_exact.due p q e a };
-        } };
+    ghost shown = { shows ring RingLike ring_exact };
 
     ghost ticking = { ring_exact.ticks };
 

@@ -3,7 +3,7 @@ ghost use Rattle.policy.specs.Meaning.{View, Sound, Served, Cleared, Laid, layab
 ghost use Rattle.policy.specs.Works.{WorksChecked, RowsMade, RowsLaid, RowsCleared};
 ghost use Rattle.policy.specs.Turns.{total, next, round, ringed, RingTicks};
 ghost use Rattle.policy.specs.Rounds.{ringed_sound, ringed_ticks};
-ghost use Rattle.std.proofs.Common.{rules, arith};
+ghost use Rattle.std.proofs.Common.{rules};
 
 use crate::fault::Fault;
 use crate::meaning::Policy;
@@ -103,9 +103,9 @@ impl Policy for Ring {
 
     ghost ticked = { λ p q. ringed_ticks p.rows.count p.rows.works p.rows.left p.turn p.busy (record { few = p.rows.few; most = p.rows.most; past = p.rows.past; under = p.rows.under; on = p.on; going = p.going }) q.rows.count q.rows.works q.rows.left q.turn q.busy };
 
-    ghost laid = { first_of (Prim.search rules, Prim.grind (arith, Self.row.coded.inj)) };
+    ghost laid = { Prim.search rules };
 
-    ghost cleared = { first_of (Prim.search rules, Prim.grind (arith, Self.row.coded.inj)) };
+    ghost cleared = { Prim.search rules };
 
     fn number(&self) -> u8 {
         self.rows.number()

@@ -2,7 +2,7 @@ ghost use Rattle.std.specs.Prelude.{◌≡◌, ℕ, ◌+◌, ◌-◌, ◌*◌, �
 ghost use Rattle.policy.specs.Meaning.{View, Sound, Served, Cleared, Laid, Alike, layable};
 ghost use Rattle.policy.specs.Wheel.{wide, wait, Until, Longest};
 ghost use Rattle.policy.specs.Slices.{turning, sliced, SliceChecked, SliceMade, SliceKeeps, SliceTicks, SliceLays};
-ghost use Rattle.policy.specs.SlicesLemmas.{sliced_sound, sliced_ticks, sliced_lays, sliced_clears};
+ghost use Rattle.policy.specs.Sliced.{sliced_sound, sliced_ticks, sliced_lays, sliced_clears};
 
 use crate::fault::Fault;
 use crate::meaning::Policy;

@@ -1,7 +1,7 @@
 ghost use Rattle.std.specs.Prelude.{◌≡◌, ℕ, ◌≤◌, true, false};
 ghost use Rattle.policy.specs.Meaning.{View, Sound, Served, Cleared, Laid, layable};
 ghost use Rattle.policy_trials.specs.Blink.{blinked, BlinkTicks, BlinkLays, BlinkClears};
-ghost use Rattle.std.proofs.Common.{rules, arith};
+ghost use Rattle.std.proofs.Common.{rules};
 
 use policy::Policy;
 
@@ -38,13 +38,13 @@ impl Policy for Blink {
 
     ghost clears = { λ p q. BlinkClears p.work p.awake q.work q.left q.awake };
 
-    ghost sound = { first_of (Prim.search rules, Prim.grind (arith, Self.row.coded.inj)) };
+    ghost sound = { Prim.search rules };
 
-    ghost ticked = { first_of (Prim.search rules, Prim.grind (arith, Self.row.coded.inj)) };
+    ghost ticked = { Prim.search rules };
 
-    ghost laid = { first_of (Prim.search rules, Prim.grind (arith, Self.row.coded.inj)) };
+    ghost laid = { Prim.search rules };
 
-    ghost cleared = { first_of (Prim.search rules, Prim.grind (arith, Self.row.coded.inj)) };
+    ghost cleared = { Prim.search rules };
 
     fn number(&self) -> u8 {
         1

@@ -2,7 +2,7 @@ use Rattle.std.proofs.Common.{sym, ap, ◌∙◌, subst, arith}
 use Rattle.std.proofs.lemmas.Bool.{leb-true}
 use Rattle.policy.specs.Wheel.{wide, wait, Until}
 use Rattle.policy.specs.Waits.{wait_wide, wait_until}
-use Rattle.policy.specs.SlicesLemmas.{shown_is}
+use Rattle.policy.specs.Sliced.{shown_is}
 use Rattle.policy.proofs.slice.SlicePolicy.due.Goals as goal
 
 pub overflow_cast-result : goal.overflow_cast-result

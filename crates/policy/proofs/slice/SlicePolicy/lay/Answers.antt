@@ -3,7 +3,7 @@ use Rattle.std.proofs.lemmas.Bool.{leb-true}
 use Rattle.policy.specs.Wheel.{wide}
 use Rattle.policy.specs.Slices.{SliceLays}
 use Rattle.policy.proofs.Same.{same_slice}
-use Rattle.policy.specs.SlicesLemmas.{shown_is}
+use Rattle.policy.specs.Sliced.{shown_is}
 use Rattle.policy.proofs.slice.SlicePolicy.lay.Goals as goal
 
 pub returns-then-fits : goal.returns-then-fits

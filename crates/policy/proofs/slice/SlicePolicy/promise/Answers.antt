@@ -2,7 +2,7 @@ use Rattle.std.proofs.Common.{sym, ap, ◌∙◌, subst}
 use Rattle.std.proofs.lemmas.Bool.{leb-true}
 use Rattle.policy.specs.Wheel.{wide, Longest}
 use Rattle.policy.specs.Waits.{wide_longest}
-use Rattle.policy.specs.SlicesLemmas.{shown_is}
+use Rattle.policy.specs.Sliced.{shown_is}
 use Rattle.policy.proofs.slice.SlicePolicy.promise.Goals as goal
 
 pub returns-then-fits : goal.returns-then-fits
