@@ -6,17 +6,11 @@ use std::alloc::Global;
 use std::test::Fail;
 
 pub fn ticked<P: Policy>(bench: &mut Bench<'_, P>) -> Result<(u32, u8), Fail> {
-    match bench.tick() {
-        Ok(answer) => Ok(answer),
-        Err(_) => Err(Fail::new("no tick")),
-    }
+    bench.tick().map_err(|_| Fail::new("no tick"))
 }
 
 pub fn counted<P: Policy>(bench: &Bench<'_, P>, a: u8) -> Result<u32, Fail> {
-    match bench.count(a) {
-        Ok(count) => Ok(count),
-        Err(_) => Err(Fail::new("no count")),
-    }
+    bench.count(a).map_err(|_| Fail::new("no count"))
 }
 
 // Ticks to a tick number, and then two counts.
@@ -34,21 +28,19 @@ pub fn counts_at<P: Policy>(bench: &mut Bench<'_, P>, to: u32, a: u32, b: u32) -
 }
 
 pub fn refused<T: Drop>(answer: Result<T, Fault>, number: u8, place: u8) -> Result<(), Fail> {
-    match answer {
-        Ok(_) => Err(Fail::new("answered")),
-        Err(fault) => {
-            if fault.layer() != "bench" || fault.number() != number || fault.place() != place {
-                return Err(Fail::new("another refusal"));
-            }
-            Ok(())
-        }
+    let Err(fault) = answer else {
+        return Err(Fail::new("answered"));
+    };
+    if fault.layer() != "bench" || fault.number() != number || fault.place() != place {
+        return Err(Fail::new("another refusal"));
     }
+    Ok(())
 }
 
 fn promises<P: Policy>(policy: &P) -> [u16; 16] {
     let mut promises = [0; 16];
-    for a in 0..16u8 {
-        promises[a as usize] = policy.promise(a);
+    for (a, promise) in promises.iter_mut().enumerate() {
+        *promise = policy.promise(a as u8);
     }
     promises
 }
@@ -106,21 +98,22 @@ fn a_strangers_policy(rt: HostRuntime) -> Result<(), Fail> {
 }
 
 // A served wheel that waits, and a ring in the middle of a turn, before they are joined.
-#[test]
-fn a_used_policy(rt: HostRuntime) -> Result<(), Fail> {
+fn used() -> Result<Slice<Ring>, Fail> {
     let mut pile = Slice::new(Ring::new(&[2, 3]), 5, 2);
-    assert!(rt; pile.lay(1));
+    if !pile.lay(1) {
+        return Err(Fail::new("no lay"));
+    }
     for _ in 0..3u8 {
         pile.serve();
     }
-    let mut again = Slice::new(Ring::new(&[2, 3]), 5, 2);
-    assert!(rt; again.lay(1));
-    for _ in 0..3u8 {
-        again.serve();
-    }
-    lies_between(rt.alloc(), &[2, 3], &[Line(0, 1, 1, 1, 2, 0)], again)?;
+    Ok(pile)
+}
+
+#[test]
+fn a_used_policy(rt: HostRuntime) -> Result<(), Fail> {
+    lies_between(rt.alloc(), &[2, 3], &[Line(0, 1, 1, 1, 2, 0)], used()?)?;
     let graph = graph(rt.alloc(), &[2, 3], &[Line(0, 1, 1, 1, 2, 0)])?;
-    let mut bench = Bench::join(&graph, pile);
+    let mut bench = Bench::join(&graph, used()?);
     counts_at(&mut bench, 3, 0, 0)?;
     counts_at(&mut bench, 4, 1, 0)
 }

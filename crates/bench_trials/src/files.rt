@@ -22,8 +22,5 @@ pub fn graph(heap: Global, times: &[u16], lines: &[Line]) -> Result<Graph, Fail>
         file.extend_from_slice(&capacity.to_be_bytes())?;
         file.extend_from_slice(&tokens.to_be_bytes())?;
     }
-    match Graph::read(&file) {
-        Ok(graph) => Ok(graph),
-        Err(_) => Err(Fail::new("no graph")),
-    }
+    Graph::read(&file).map_err(|_| Fail::new("no graph"))
 }

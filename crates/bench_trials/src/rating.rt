@@ -1,3 +1,4 @@
+use crate::benches::refused;
 use crate::files::{Line, graph};
 use bench::{Fault, Rate, Sample, unhindered_rate};
 use std::alloc::Global;
@@ -11,45 +12,17 @@ fn rate(heap: Global, times: &[u16], lines: &[Line]) -> Result<Result<Rate, Faul
 }
 
 pub fn repeats(answer: Result<Rate, Fault>, f: u32, d: u32, m: u32) -> Result<(), Fail> {
-    match answer {
-        Ok(
-            Rate::Repeats {
-                f: from,
-                d: every,
-                m: many,
-            },
-        ) => {
-            if from != f || every != d || many != m {
-                return Err(Fail::new("another rate"));
-            }
-            Ok(())
-        }
-        _ => Err(Fail::new("does not repeat")),
+    if answer != Ok(Rate::Repeats { f, d, m }) {
+        return Err(Fail::new("another rate"));
     }
+    Ok(())
 }
 
 fn stops(answer: Result<Rate, Fault>, f: u32) -> Result<(), Fail> {
-    match answer {
-        Ok(Rate::Standstill { f: at }) => {
-            if at != f {
-                return Err(Fail::new("stops elsewhere"));
-            }
-            Ok(())
-        },
-        _ => Err(Fail::new("does not stop")),
+    if answer != Ok(Rate::Standstill { f }) {
+        return Err(Fail::new("another answer"));
     }
-}
-
-fn refused(answer: Result<Rate, Fault>, number: u8) -> Result<(), Fail> {
-    match answer {
-        Ok(_) => Err(Fail::new("answered")),
-        Err(fault) => {
-            if fault.layer() != "bench" || fault.number() != number || fault.place() != 0 {
-                return Err(Fail::new("another refusal"));
-            }
-            Ok(())
-        }
-    }
+    Ok(())
 }
 
 // The runs that docs/runs.md works out.
@@ -72,6 +45,7 @@ fn no_rows(rt: HostRuntime) -> Result<(), Fail> {
     refused(
         unhindered_rate(&graph(rt.alloc(), &[2], &[])?, &mut rows),
         17,
+        0,
     )?;
     stops(
         unhindered_rate(
@@ -107,7 +81,7 @@ fn rows_afterwards(rt: HostRuntime) -> Result<(), Fail> {
     assert_eq!(rt; rows[2].tokens[31], 7);
     assert_eq!(rt; rows[2].left[15], 8);
     let mut rows = [old; 1];
-    refused(unhindered_rate(&graph, &mut rows), 17)?;
+    refused(unhindered_rate(&graph, &mut rows), 17, 0)?;
     assert_eq!(rt; rows[0].tick, 0);
     assert_eq!(rt; rows[0].tokens[31], 0);
     Ok(())
@@ -148,7 +122,7 @@ fn last_tick(rt: HostRuntime) -> Result<(), Fail> {
         &[Line(0, 1, 255, 1, 255, 0), Line(1, 2, 16, 1, 16, 0)],
     )?;
     let mut rows = [Sample::BLANK; 3];
-    refused(unhindered_rate(&graph, &mut rows), 18)?;
+    refused(unhindered_rate(&graph, &mut rows), 18, 0)?;
     assert_eq!(rt; rows[0].tick, 0);
     assert_eq!(rt; rows[1].tick, 1);
     assert_eq!(rt; rows[2].tick, 0);

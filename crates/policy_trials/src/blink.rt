@@ -20,9 +20,8 @@ impl Blink {
     pub fn new(work: u16) -> Blink
         ensures { (result.left ≡ 0) × ((result.awake ≡ true) × ((work ≤ 4095 → result.work ≡ work))) }
     {
-        let work = if work > 4095 { 4095 } else { work };
         Blink {
-            work,
+            work: work.min(4095),
             left: 0,
             awake: true,
         }
@@ -67,9 +66,10 @@ impl Policy for Blink {
             return 0;
         }
         if self.awake {
-            return 2 * self.left - 1;
+            2 * self.left - 1
+        } else {
+            2 * self.left
         }
-        2 * self.left
     }
 
     fn serve(&mut self) {

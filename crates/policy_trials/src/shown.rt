@@ -1,6 +1,7 @@
 use crate::blink::Blink;
-use crate::runs::traced;
+use crate::runs::{lay_all, traced};
 use policy::{Free, Pair, Policy, Ring, Slice, worked_promises};
+use std::test::Fail;
 
 #[test]
 fn free(rt: HostRuntime) {
@@ -52,22 +53,18 @@ fn promises(rt: HostRuntime) {
 
 // Two actors of 2 and 3, each laid again as it ends: the first ends at 2, 7 and 12, the second at 5 and 10.
 #[test]
-fn goes_round(rt: HostRuntime) {
+fn goes_round(rt: HostRuntime) -> Result<(), Fail> {
     let mut ring = Ring::new(&[2, 3]);
-    let mut ends = [0u8; 5];
-    let mut k = 0;
-    let _ = ring.lay(0);
-    let _ = ring.lay(1);
+    let mut ends = Vec::new(rt.alloc());
+    lay_all(&mut ring);
     for tick in 1..13u8 {
         ring.serve();
-        if ring.lay(0) && k < 5 {
-            ends[k] = tick;
-            k += 1;
-        }
-        if ring.lay(1) && k < 5 {
-            ends[k] = tick;
-            k += 1;
+        for a in 0..2 {
+            if ring.lay(a) {
+                ends.push(tick)?;
+            }
         }
     }
-    assert!(rt; ends == [2, 5, 7, 10, 12]);
+    assert!(rt; ends.as_slice() == [2, 5, 7, 10, 12].as_slice());
+    Ok(())
 }

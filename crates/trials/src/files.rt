@@ -22,8 +22,8 @@ fn refused(bytes: &[u8], layer: &str, number: u8, place: u8) -> Result<(), Fail>
 // The pair with one byte set.
 fn with(at: usize, value: u8) -> [u8; 42] {
     let mut file = PAIR;
-    if at < 42 {
-        file[at] = value;
+    if let Some(byte) = file.get_mut(at) {
+        *byte = value;
     }
     file
 }
@@ -37,16 +37,16 @@ fn pair_reads_and_writes_back(rt: HostRuntime) -> Result<(), Fail> {
     assert_eq!(rt; graph.actors().len(), 2);
     assert_eq!(rt; graph.channels().len(), 1);
     let mut out = [7; 44];
-    match graph.write(&mut out[0..41]) {
-        Ok(_) => return Err(Fail::new("41 bytes sufficed")),
-        Err(fault) => assert_eq!(rt; fault.number(), 20),
-    }
+    let Err(fault) = graph.write(&mut out[..41]) else {
+        return Err(Fail::new("41 bytes sufficed"));
+    };
+    assert_eq!(rt; fault.number(), 20);
     assert!(rt; out == [7; 44], "a refusal leaves the buffer");
-    match graph.write(&mut out) {
-        Ok(size) => assert_eq!(rt; size, 42),
-        Err(_) => return Err(Fail::new("not written")),
-    }
-    assert!(rt; &out[0..42] == &PAIR[..]);
+    let Ok(size) = graph.write(&mut out) else {
+        return Err(Fail::new("not written"));
+    };
+    assert_eq!(rt; size, 42);
+    assert!(rt; &out[..42] == &PAIR[..]);
     assert!(rt; out[42] == 7 && out[43] == 7);
     Ok(())
 }

@@ -24,15 +24,13 @@ fn first_same_row(rt: HostRuntime) -> Result<(), Fail> {
     assert!(rt; table.row(2).is_none());
     assert!(rt; table.add(sight(1, 12)).is_ok());
     assert_eq!(rt; table.find(&sight(1, 0)), Some(0));
-    match table.add(sight(7, 13)) {
-        Ok(_) => return Err(Fail::new("a full table took a row")),
-        Err(back) => assert_eq!(rt; back.what, 7),
-    }
-    match table.row(2) {
-        None => Err(Fail::new("no row 2")),
-        Some(row) => {
-            assert_eq!(rt; row.stamp(), 12);
-            Ok(())
-        },
-    }
+    let Err(back) = table.add(sight(7, 13)) else {
+        return Err(Fail::new("a full table took a row"));
+    };
+    assert_eq!(rt; back.what, 7);
+    let Some(row) = table.row(2) else {
+        return Err(Fail::new("no row 2"));
+    };
+    assert_eq!(rt; row.stamp(), 12);
+    Ok(())
 }
