@@ -2,7 +2,7 @@ ghost use Rattle.std.specs.Prelude.{◌≡◌, codes};
 ghost use Rattle.fields.specs.Faults.{number_of, place_of};
 
 // Why a field is not read or written, with the number of the field.
-#[derive(Clone, Copy)]
+#[derive(Clone, Copy, PartialEq, Eq, Debug)]
 pub enum Fault {
     // The file ends inside the field or before it.
     Ends(u8),
@@ -29,11 +29,11 @@ impl Fault {
         ensures { result ≡ number_of self }
     {
         match self {
-            Fault::Ends(_) => 1,
-            Fault::Tag(_) => 2,
-            Fault::Length(_) => 3,
-            Fault::More(_) => 4,
-            Fault::Small => 20,
+            Self::Ends(_) => 1,
+            Self::Tag(_) => 2,
+            Self::Length(_) => 3,
+            Self::More(_) => 4,
+            Self::Small => 20,
         }
     }
 
@@ -42,11 +42,8 @@ impl Fault {
         ensures { result ≡ place_of self }
     {
         match self {
-            Fault::Ends(field) => field,
-            Fault::Tag(field) => field,
-            Fault::Length(field) => field,
-            Fault::More(field) => field,
-            Fault::Small => 0,
+            Self::Ends(field) | Self::Tag(field) | Self::Length(field) | Self::More(field) => field,
+            Self::Small => 0,
         }
     }
 }

@@ -2,7 +2,7 @@ ghost use Rattle.std.specs.Prelude.{◌≡◌};
 ghost use Rattle.fields.specs.Field.{tag_of, size_of, kind_of};
 
 // What a field describes.
-#[derive(Clone, Copy)]
+#[derive(Clone, Copy, PartialEq, Eq, Debug)]
 pub enum Kind {
     Head,
     Actor,
@@ -10,7 +10,7 @@ pub enum Kind {
 }
 
 // A field by its value, which lies in the file.
-#[derive(Clone, Copy)]
+#[derive(Clone, Copy, PartialEq, Eq, Debug)]
 pub enum Field<'a> {
     // actor count, channel count
     Head(&'a [u8; 2]),

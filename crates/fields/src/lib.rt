@@ -9,3 +9,4 @@ mod writing;
 pub use fault::Fault;
 pub use field::{Field, Kind};
 pub use reading::{end, read};
+pub use writing::Writer;

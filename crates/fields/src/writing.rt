@@ -1,23 +1,60 @@
-ghost use Rattle.std.specs.Prelude.{◌≡◌, ℕ, ◌+◌, ◌*◌, ◌<◌, ◌≤◌, [], ◌++◌, length};
+ghost use Rattle.std.specs.Prelude.{◌≡◌, ℕ, ◌+◌, ◌-◌, ◌<◌, ◌≤◌, [], ◌++◌, length};
 ghost use Rattle.fields.specs.Field.{size_of, kind_of, bytes_of, framed, written};
 ghost use Rattle.fields.specs.Writing.{Placed, PutIs};
 
 use crate::fault::Fault;
 use crate::field::{Field, Kind};
 
-// Puts bytes at a place of the buffer that has room for them.
-fn put(out: &mut [u8], at: usize, bytes: &[u8])
-    requires { at + length bytes.now ≤ length out.old }
-    ensures { Placed at bytes.now out.old out.new }
-{
-    out[at..at + bytes.len()].copy_from_slice(bytes);
+// A buffer that fields are written into, and the place where the next one goes, which may be past the buffer's end.
+#[derive(Drop)]
+pub struct Writer<'a> {
+    buffer: &'a mut [u8],
+    at: usize,
+}
+
+impl<'a> Writer<'a> {
+    // A writer that begins at that place of the buffer.
+    pub fn new(buffer: &'a mut [u8], at: usize) -> Writer<'a>
+        ensures place { result.at ≡ at }
+        ensures kept { result.buffer.now ≡ buffer.old }
+        ensures lender { result.buffer.ghost_name ≡ buffer.entry.ghost_name }
+    {
+        Writer { buffer, at }
+    }
+
+    // The place where the next field goes.
+    pub fn place(&self) -> usize
+        ensures { result ≡ self.now.at }
+    {
+        self.at
+    }
+
+    // How many bytes there are from the place to the end of the buffer.
+    fn room(&self) -> usize
+        ensures { result ≡ length self.now.buffer.now - self.now.at }
+    {
+        self.buffer.len().saturating_sub(self.at)
+    }
+
+    // Puts bytes that fit at the place, and goes on after them.
+    fn put(&mut self, bytes: &[u8])
+        requires { self.old.at + length bytes.now ≤ length self.old.buffer.now }
+        ensures placed { Placed self.old.at bytes.now self.old.buffer.now self.new.buffer.now }
+        ensures place { self.new.at ≡ self.old.at + length bytes.now }
+        ensures lender { self.new.buffer.ghost_name ≡ self.old.buffer.ghost_name }
+    {
+        let next = self.at + bytes.len();
+        self.buffer[self.at..next].copy_from_slice(bytes);
+        self.at = next;
+    }
 }
 
 // The bytes before a value: the tag, and the length with its high byte first.
 fn frame(kind: Kind) -> [u8; 3]
     ensures { result ≡ framed kind [] }
 {
-    [kind.tag(), 0, kind.size() as u8]
+    let [high, low] = (kind.size() as u16).to_be_bytes();
+    [kind.tag(), high, low]
 }
 
 impl<'a> Field<'a> {
@@ -27,23 +64,23 @@ impl<'a> Field<'a> {
         ensures size { length result.now ≡ size_of (kind_of self.entry) }
     {
         match self {
-            Field::Head(value) => &value[..],
-            Field::Actor(value) => &value[..],
-            Field::Channel(value) => &value[..],
+            Field::Head(value) => value,
+            Field::Actor(value) => value,
+            Field::Channel(value) => value,
         }
     }
 
-    // Writes the field from a place of the buffer on, and answers the place after it.
-    pub fn write(self, out: &mut [u8], at: usize) -> Result<usize, Fault>
-        ensures { PutIs at (written self.entry) out.old out.new result }
+    // Writes the field, or refuses where it does not fit.
+    pub fn write(self, writer: &mut Writer<'_>) -> Result<(), Fault>
+        ensures done { PutIs (written self.entry) writer.old writer.new result }
+        ensures lender { writer.new.buffer.ghost_name ≡ writer.old.buffer.ghost_name }
     {
-        let kind = self.kind();
         let value = self.bytes();
-        if at > out.len() || out.len() - at < 3 + kind.size() {
+        if writer.room() < 3 + value.len() {
             return Err(Fault::Small);
         }
-        put(out, at, &frame(kind));
-        put(out, at + 3, value);
-        Ok(at + 3 + value.len())
+        writer.put(&frame(self.kind()));
+        writer.put(value);
+        Ok(())
     }
 }

@@ -1,10 +1,11 @@
 // A table of records in rows that somebody lends, written once for all kinds that can be compared and stamped.
 #![tactic(auto)]
 
-ghost use Rattle.std.specs.Prelude.{◌≡◌, ℕ, ◌+◌, ◌<◌, ◌≤◌, Bool, length};
+ghost use Rattle.std.specs.Prelude.{◌≡◌, ℕ, ◌+◌, ◌<◌, ◌≤◌, Bool, length, take};
 ghost use Rattle.table.specs.Find.{FirstIs, AddedIs, RowIs, Rises, Tops};
 
-// A kind of record: when two are the same, and the stamp, which does not count for that.
+// A kind of record: when two are the same, and the stamp, which does not count for that. So `same` is no `PartialEq`:
+// two that are the same may differ in their stamps.
 pub trait Record {
     ghost alike: { Self → Self → Bool };
 
@@ -17,25 +18,13 @@ pub trait Record {
         ensures { result ≡ stamped self.now };
 }
 
-// The rows of a lender, of which the first `used` are taken.
+// The rows of a lender, of which the first `used` are taken. Rows and number stand side by side, since a table makes
+// do with the memory that it is lent, and no list grows in it.
 #[derive(Drop)]
 pub struct Table<'a, R: Record> {
     rows: &'a mut [R],
     used: usize,
     ghost within: { used ≤ length rows.now },
-}
-
-// The first of the first `used` rows that is the same as the record, compared where it lies.
-fn find_in<R: Record>(rows: &[R], used: usize, record: &R) -> Option<usize>
-    requires { used ≤ length rows.now }
-    ensures { FirstIs R.Record.alike rows.now used «record».now result }
-{
-    for row in 0..used {
-        if rows[row].same(record) {
-            return Some(row);
-        }
-    }
-    None
 }
 
 impl<'a, R: Record> Table<'a, R> {
@@ -55,23 +44,25 @@ impl<'a, R: Record> Table<'a, R> {
         self.used
     }
 
+    // The rows that are taken.
+    fn taken(&self) -> &[R]
+        ensures { result.now ≡ take self.now.used self.now.rows.now }
+    {
+        &self.rows[..self.used]
+    }
+
     // The taken row of that number.
     pub fn row(&self, at: usize) -> Option<&R>
         ensures { RowIs self.now.rows.now self.now.used at result }
     {
-        let rows = &*self.rows;
-        if at < self.used {
-            Some(&rows[at])
-        } else {
-            None
-        }
+        self.taken().get(at)
     }
 
     // The first taken row that is the same as the record, if there is one.
     pub fn find(&self, record: &R) -> Option<usize>
         ensures { FirstIs R.Record.alike self.now.rows.now self.now.used «record».now result }
     {
-        find_in(self.rows, self.used, record)
+        self.taken().iter().position(|row| row.same(record))
     }
 
     // Puts the record into the next row and answers its number, or gives it back where no row is spare.
@@ -82,12 +73,13 @@ impl<'a, R: Record> Table<'a, R> {
         ensures rising { Rises R.Record.stamped self.old.rows.now self.old.used → Tops R.Record.stamped self.old.rows.now self.old.used (R.Record.stamped «record») → Rises R.Record.stamped self.new.rows.now self.new.used }
         ensures lender { self.new.rows.ghost_name ≡ self.old.rows.ghost_name }
     {
-        if self.used >= self.rows.len() {
+        let at = self.used;
+        if at >= self.rows.len() {
             return Err(record);
         }
-        let at = self.used;
+        // By index: of a row that is lent by `get_mut` a proof knows nothing once it is written.
         self.rows[at] = record;
-        self.used = at + 1;
+        self.used += 1;
         Ok(at)
     }
 }

@@ -1,21 +1,17 @@
-use Rattle.std.proofs.Common.{◌≡◌, ◌+◌, ◌≤◌, [], length, refl, ap, ◌∙◌, arith}
+use Rattle.std.proofs.Common.{[], length, ap, ◌∙◌, arith}
 use Rattle.fields.specs.declared.field.Kind.{Kind}
-use Rattle.fields.specs.Field.{size_of, kind_of, bytes_of, framed}
+use Rattle.fields.specs.Field.{kind_of, bytes_of, framed}
 use Rattle.fields.specs.Writing.{Placed}
 use Rattle.fields.proofs.Placed.{placed_more}
 use Rattle.fields.proofs.field.Field.write.Goals as goal
 
-pub returns : goal.returns
-returns c =
+pub returns-clause-done : goal.returns-clause-done
+returns-clause-done c =
     let f = c.args.self in
-    let at = c.args.at in
-    let frame = framed (kind_of f) [] in
-    let v = c.bytes-value.ensures.value in
-    let size = c.bytes-value.ensures.size in
-    let long : length (bytes_of f) ≡ size_of (kind_of f) = rw v at size in
-    let first : Placed at frame c.args.out.now c.put.new.out =
-    rw (c.frame.ensures ∙ ap (λ (k : Kind). framed k []) c.kind-kind.ensures) at c.put.ensures in
-    let second : Placed (at + 3) (bytes_of f) c.put.new.out c.put-2.new.out = rw v at c.put-2.ensures in
-    let room : at + 3 + length (bytes_of f) ≤ length c.args.out.now =
-    omega (arith, c.if-out-at.false, c.size.ensures ∙ ap size_of c.kind-kind.ensures) in
-    (omega arith, omega arith, placed_more at (at + 3) frame (bytes_of f) c.args.out.now c.put.new.out c.put-2.new.out refl (omega arith) first second)
+    let before = c.args.writer.now in
+    let between = c.put.new.self in
+    let frame : Placed before.at (framed (kind_of f) []) before.buffer.now between.buffer.now =
+    rw (c.frame.ensures ∙ ap (λ (k : Kind). framed k []) c.kind.ensures) at c.put.ensures.placed in
+    let value : Placed between.at (bytes_of f) between.buffer.now c.put-2.new.self.buffer.now =
+    rw c.bytes-value.ensures.value at c.put-2.ensures.placed in
+    (omega (arith, ap length c.bytes-value.ensures.value), omega arith, placed_more before.at between.at (framed (kind_of f) []) (bytes_of f) before.buffer.now between.buffer.now _ (omega arith) (omega arith) frame value)
