@@ -1,4 +1,3 @@
-ghost use Rattle.std.specs.Prelude.{◌≡◌};
 ghost use Rattle.std.specs.Str.{bytes_eq};
 
 use table::Record;
@@ -17,20 +16,13 @@ pub struct NameRow {
     pub field: u8,
 }
 
-// Whether two names are the same, byte for byte.
-fn same_bytes(a: &[u8], b: &[u8]) -> bool
-    ensures { result ≡ bytes_eq a.now b.now }
-{
-    a == b
-}
-
 impl Record for NameRow {
     ghost alike = { λ a b. bytes_eq a.name b.name };
 
     ghost stamped = { λ a. a.field };
 
     fn same(&self, other: &NameRow) -> bool {
-        same_bytes(&self.name, &other.name)
+        self.name == other.name
     }
 
     fn stamp(&self) -> u32 {

@@ -7,6 +7,6 @@ pub returns : goal.returns
 returns c = let h = c.in_ok-field.ensures in (
   h.2
       ∙ ap (λ (l : List ℕ). framed kind.Channel (l ++ c.in_ok-field.rest.now))
-      (ap bytes_of c.in-Channel.is ∙ c.channel_of-channel.ensures.1),
+      (ap bytes_of c.in-Channel.is ∙ c.from-channel.ensures.1),
   (sym c.if-not-is_ended.ensures, sym c.if-not-is_limited.ensures),
 )

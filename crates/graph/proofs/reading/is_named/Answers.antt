@@ -12,19 +12,19 @@ module _ (over : Bool) (bs : List ℕ) (i : ℕ) (r : Bool) (long : length bs �
 pub returns-then-not-may_follow : goal.returns-then-not-may_follow
 returns-then-not-may_follow c =
     let e =
-    step c.loop-i.over c.args.name.now c.loop-i.i c.may_follow.result (search rules) c.loop-i-test.true c.may_follow.ensures
-    c.loop-i.invariant in
+    step c.loop-b.over c.args.name.now c.loop-b.b-index c.may_follow.result (search rules) c.loop-b-test.true c.may_follow.ensures
+    c.loop-b.invariant in
     rw (e, c.if-not-may_follow.true) refl
 
-pub loop-i-preserved : goal.loop-i-preserved
-loop-i-preserved c =
+pub loop-b-preserved : goal.loop-b-preserved
+loop-b-preserved c =
     let e =
-    step c.loop-i.over c.args.name.now c.loop-i.i c.may_follow.result (search rules) c.loop-i-test.true c.may_follow.ensures
-    c.loop-i.invariant in
+    step c.loop-b.over c.args.name.now c.loop-b.b-index c.may_follow.result (search rules) c.loop-b-test.true c.may_follow.ensures
+    c.loop-b.invariant in
     sym (rw c.if-not-may_follow.false at e)
 
 pub returns : goal.returns
 returns c =
     let long : length c.args.name.now ≡ 8 = search rules in
-    let e = sym (at_drop_all (formed c.loop-i.over) c.args.name.now c.loop-i.i (omega (arith, c.loop-i-test.false))) ∙ c.loop-i.invariant in
+    let e = sym (at_drop_all (formed c.loop-b.over) c.args.name.now c.loop-b.b-index (omega (arith, c.loop-b-test.false))) ∙ c.loop-b.invariant in
     rw (← e) refl

@@ -3,7 +3,7 @@ use Rattle.std.proofs.lemmas.List.Sums.{sum_by-set}
 use Rattle.std.proofs.ByRecursion.{sum_by_le, All-from_get_or}
 use Rattle.std.proofs.lemmas.Bool.{cases_eq}
 use Rattle.graph.specs.Counts.{at}
-use Rattle.graph.proofs.counts.counts.Goals as goal
+use Rattle.graph.proofs.wiring.Wiring.counts.Goals as goal
 
 -- what holds of each count after that of `a` is set to `v`
 after_set : (P : ℕ → ℕ → Type 0) (n : List ℕ) (a v : ℕ) → a < length n → P a v → ((b : ℕ) → P b (at n b))
@@ -20,7 +20,7 @@ rises n a v h e r le =
 pub returns-then-n-a-ge4096 : goal.returns-then-n-a-ge4096
 returns-then-n-a-ge4096 c =
     λ m s small. let o = c.in-Some.ensures in
-    omega (arith, small c.in-Some.a (o.1 c.args.actors c.requires.ends), o.2 m s.1 (c.loop-a.invariant.3 m s), c.if-n-a-ge4096.true)
+    omega (arith, small c.in-Some.a (o.1 c.args.self.now.actors c.args.self.now.ends), o.2 m s.1 (c.loop-a.invariant.3 m s), c.if-n-a-ge4096.true)
 
 module _ (c : goal.After-raised) where
   capped : (b : ℕ) → at (set c.loop-a.n c.in-Some.a c.raised.result) b ≤ 4096
@@ -40,7 +40,7 @@ loop-a-preserved c =
     let a = c.in-Some.a in
     let v = c.raised.result in (
       simp length-set i.0,
-      after_set (λ b v. b < c.args.actors → 1 ≤ v) n a v o.0 (λ _. omega (arith, c.raised.ensures)) i.1,
+      after_set (λ b v. b < c.args.self.now.actors → 1 ≤ v) n a v o.0 (λ _. omega (arith, c.raised.ensures)) i.1,
       capped c,
       λ m s. after_set (λ b v. v ≤ m b) n a v o.0 (omega (arith, c.raised.ensures, o.2 m s.1 (i.3 m s))) (i.3 m s),
     )

@@ -4,7 +4,7 @@ use Rattle.std.proofs.lemmas.Bool.{cases_eq}
 use Rattle.graph.specs.declared.channel.Channel.{Channel}
 use Rattle.graph.proofs.Ways.{true_not_false}
 use Rattle.graph.specs.Piece.{has, Way, start}
-use Rattle.graph.proofs.piece.joined.Goals as goal
+use Rattle.graph.proofs.wiring.Wiring.joined.Goals as goal
 
 -- one more mark leaves fewer to make
 fewer : (xs : List Bool) (a : ℕ) → a < length xs → length xs ≡ 16 → has xs a ≡ false
@@ -39,7 +39,7 @@ only cs n zero h = start
 only cs n (suc a) h = absurd (true_not_false (sym h ∙ none n a))
 
 pub loop-a-init : goal.loop-a-init
-loop-a-init c = (refl, refl, only c.args.channels.now 15)
+loop-a-init c = (refl, refl, only c.args.self.now.channels.now 15)
 
 pub loop-a-smaller : goal.loop-a-smaller
 loop-a-smaller c = let o = c.in-Some.ensures in fewer c.loop-a.marks c.in-Some.a o.0 c.loop-a.invariant.0 o.1
@@ -50,5 +50,5 @@ loop-a-preserved c =
     let i = c.loop-a.invariant in (
       simp length-set i.0,
       kept c.loop-a.marks c.in-Some.a 0 o.0 i.1,
-      more (Way c.args.channels.now) c.loop-a.marks c.in-Some.a (o.2 i.2) i.2,
+      more (Way c.args.self.now.channels.now) c.loop-a.marks c.in-Some.a (o.2 i.2) i.2,
     )
