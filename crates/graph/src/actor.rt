@@ -3,7 +3,7 @@ ghost use Rattle.std.specs.Str.{bytes_eq};
 use table::Record;
 
 // A task: its name, of 1 to 8 printable bytes and then zeros, and the ticks that a firing of it takes.
-#[derive(Clone, Copy)]
+#[derive(Clone, Copy, PartialEq, Eq, Debug)]
 pub struct Actor {
     pub name: [u8; 8],
     pub time: u16,

@@ -4,14 +4,6 @@ ghost use Rattle.graph.specs.Counts.{LagsIs, Ones, CountsIs};
 
 use crate::wiring::Wiring;
 
-// The next higher count.
-fn raised(count: u16) -> u16
-    requires { count < 4096 }
-    ensures { result ≡ count + 1 }
-{
-    count + 1
-}
-
 impl Wiring<'_> {
     // The actor that lags behind on the first channel out of balance, if there is one.
     fn lagging(&self, n: &[u16; 16]) -> Option<usize>
@@ -51,7 +43,7 @@ impl Wiring<'_> {
             if n[a] >= 4096 {
                 return None;
             }
-            n[a] = raised(n[a]);
+            n[a] += 1;
         }
         Some(n)
     }

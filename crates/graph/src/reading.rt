@@ -201,15 +201,13 @@ impl Head {
         let mut rest = bytes;
         for (i, place) in list[..self.actors as usize].iter_mut().enumerate() {
             let number = 1 + i as u8;
-            let (actor, more) = actor(&seen, rest, number)?;
-            let name = actor.name;
+            (*place, rest) = actor(&seen, rest, number)?;
+            let name = place.name;
             // there is a row for each of the 16
             let _ = seen.add(NameRow {
                 name,
                 field: number,
             });
-            *place = actor;
-            rest = more;
         }
         Ok((list, rest))
     }
@@ -221,9 +219,7 @@ impl Head {
         let mut list = [NO_CHANNEL; 32];
         let mut rest = bytes;
         for (i, place) in list[..self.channels as usize].iter_mut().enumerate() {
-            let (channel, more) = channel(self.actors, rest, 1 + self.actors + i as u8)?;
-            *place = channel;
-            rest = more;
+            (*place, rest) = channel(self.actors, rest, 1 + self.actors + i as u8)?;
         }
         Ok((list, rest))
     }
@@ -232,7 +228,8 @@ impl Head {
     fn end(self, bytes: &[u8]) -> Result<(), Fault>
         ensures { NoMoreIs bytes.now self.actors self.channels result }
     {
-        Ok(fields::end(bytes, 1 + self.actors + self.channels)?)
+        fields::end(bytes, 1 + self.actors + self.channels)?;
+        Ok(())
     }
 }
 

@@ -22,10 +22,10 @@ loop-i-init c =
       below = λ k d l. absurd (omega (arith, t.used));
     }
 
-pub returns-in_err-actor : goal.returns-in_err-actor
-returns-in_err-actor c =
+pub returns-in_err-place : goal.returns-in_err-place
+returns-in_err-place c =
     let p = err_from_is_err_and c.from_residual.result c.from_residual.ensures.1 in
-    let h = c.in_err-actor.ensures in
+    let h = c.in_err-place.ensures in
     let i = c.loop-i.invariant in
     let f = i.filled in
     let lt : c.loop-i.i < c.args.self.actors = omega (arith, f.size, c.loop-i.auto.place-items, c.loop-i-test.true) in
@@ -37,17 +37,17 @@ returns-in_err-actor c =
 pub loop-i-preserved : goal.loop-i-preserved
 loop-i-preserved c =
     let s = c.args.self in
-    let h = c.in_ok-actor.ensures in
+    let h = c.in_ok-place.ensures in
     let i = c.loop-i.invariant in
     let few : s.actors ≤ 16 = (head_bounds s.actors s.channels s.within).1 in
     let lt : c.loop-i.i < c.args.self.actors = omega (arith, i.filled.size, c.loop-i.auto.place-items, c.loop-i-test.true) in
     let d = added _ _ _ _ _ c.add.result (omega (arith, i.room, i.used)) c.add.ensures.done in
     let k =
-    kept_more c.loop-i.seen.rows.now _ c.loop-i.place-items c.loop-i.seen.used _ c.loop-i.i _ c.in_ok-actor.actor d i.used (omega (arith, i.room))
+    kept_more c.loop-i.seen.rows.now _ c.loop-i.place-items c.loop-i.seen.used _ c.loop-i.i _ c.in_ok-place.field-0-0 d i.used (omega (arith, i.room))
     (omega (arith, i.filled.size)) refl i.named in
     record {
-      filled = filled_more nobody actor_bytes GoodActor vacant s.actors c.args.bytes.now c.loop-i.place-items c.loop-i.rest.now c.in_ok-actor.more.now
-          c.in_ok-actor.actor c.loop-i.i lt i.filled h.0 (rw i.named at h.1);
+      filled = filled_more nobody actor_bytes GoodActor vacant s.actors c.args.bytes.now c.loop-i.place-items c.loop-i.rest.now c.in_ok-place.field-0-1.now
+          c.in_ok-place.field-0-0 c.loop-i.i lt i.filled h.0 (rw i.named at h.1);
       room = k.0 ∙ i.room;
       used = k.1;
       named = k.2;

@@ -1,4 +1,4 @@
-use Rattle.std.proofs.Common.{◌+◌, ◌<◌, ◌≤◌, take, arith}
+use Rattle.std.proofs.Common.{◌+◌, ◌<◌, take, arith}
 use Rattle.std.proofs.lemmas.List.{length-take-le}
 use Rattle.std.proofs.lemmas.Result.{err_from_is_err_and}
 use Rattle.graph.specs.Channels.{blank}
@@ -14,8 +14,8 @@ loop-i-init c =
     let h = c.args.self in
     filled_none blank channel_bytes (GoodChannel h.actors) blank 32 h.channels c.args.bytes.now (head_bounds h.actors h.channels h.within).2
 
-pub returns-in_err-channel : goal.returns-in_err-channel
-returns-in_err-channel c =
+pub returns-in_err-place : goal.returns-in_err-place
+returns-in_err-place c =
     let p = err_from_is_err_and c.from_residual.result c.from_residual.ensures.1 in
     let f = c.loop-i.invariant in
     let n = c.args.self.actors in
@@ -23,15 +23,15 @@ returns-in_err-channel c =
     rw (p.1, p.2)
     (many_refused blank channel_bytes (GoodChannel n) (one_channel n) (one_channel_lem n) (1 + n) c.args.bytes.now (take c.loop-i.i c.loop-i.place-items)
     c.loop-i.rest.now c.loop-i.i c.args.self.channels _ f.as_written f.good
-    (length-take-le c.loop-i.i c.loop-i.place-items (omega (arith, f.size))) lt c.in_err-channel.ensures)
+    (length-take-le c.loop-i.i c.loop-i.place-items (omega (arith, f.size))) lt c.in_err-place.ensures)
 
 pub loop-i-preserved : goal.loop-i-preserved
 loop-i-preserved c =
-    let h = c.in_ok-channel.ensures in
+    let h = c.in_ok-place.ensures in
     let f = c.loop-i.invariant in
     let lt : c.loop-i.i < c.args.self.channels = omega (arith, f.size, c.loop-i.auto.place-items, c.loop-i-test.true) in
     filled_more blank channel_bytes (GoodChannel c.args.self.actors) blank c.args.self.channels c.args.bytes.now c.loop-i.place-items c.loop-i.rest.now
-    c.in_ok-channel.more.now c.in_ok-channel.channel c.loop-i.i lt f h.0 h.1
+    c.in_ok-place.field-0-1.now c.in_ok-place.field-0-0 c.loop-i.i lt f h.0 h.1
 
 pub returns : goal.returns
 returns c =

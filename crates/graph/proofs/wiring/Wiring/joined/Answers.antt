@@ -1,8 +1,8 @@
-use Rattle.std.proofs.Common.{◌≡◌, ℕ, zero, suc, ◌-◌, ◌<◌, Bool, true, false, cond, ◌≢◌, List, ◌∷◌, length, set, replicate, count_by, sym, refl, ap, ◌∙◌, ⊎_elim, arith, length-set, get_or-set_other, get_or-set_same}
+use Rattle.std.proofs.Common.{◌≡◌, ℕ, zero, suc, ◌-◌, ◌<◌, Bool, true, false, cond, List, ◌∷◌, length, set, replicate, count_by, sym, refl, ap, ◌∙◌, arith, length-set}
 use Rattle.std.proofs.lemmas.List.Sums.{sum_by-set, count_by-le-length}
-use Rattle.std.proofs.lemmas.Bool.{cases_eq}
+use Rattle.std.proofs.lemmas.Bool.{true≢false}
 use Rattle.graph.specs.declared.channel.Channel.{Channel}
-use Rattle.graph.proofs.Ways.{true_not_false}
+use Rattle.graph.proofs.Sets.{after_set}
 use Rattle.graph.specs.Piece.{has, Way, start}
 use Rattle.graph.proofs.wiring.Wiring.joined.Goals as goal
 
@@ -18,16 +18,6 @@ fewer xs a h e f =
       length-set xs a true,
     )
 
--- the marks after one more is made
-kept : (xs : List Bool) (a b : ℕ) → a < length xs → has xs b ≡ true → has (set xs a true) b ≡ true
-kept xs a b l h =
-    ⊎_elim (λ (e : b ≡ a). rw (e, get_or-set_same xs a true false l) refl) (λ (ne : b ≢ a). rw get_or-set_other h) (cases_eq b a)
-
-more : (P : ℕ → Type 0) (xs : List Bool) (a : ℕ) → P a → ((b : ℕ) → has xs b ≡ true → P b)
-    → (b : ℕ) → has (set xs a true) b ≡ true → P b
-more P xs a here f b h =
-    ⊎_elim (λ (e : b ≡ a). rw e here) (λ (ne : b ≢ a). f b (rw get_or-set_other at h)) (cases_eq b a)
-
 -- the first mark
 none : (n a : ℕ) → has (replicate n false) a ≡ false
 none zero a = refl
@@ -36,7 +26,7 @@ none (suc n) (suc a) = none n a
 
 only : (cs : List Channel) (n a : ℕ) → has (true ∷ replicate n false) a ≡ true → Way cs a
 only cs n zero h = start
-only cs n (suc a) h = absurd (true_not_false (sym h ∙ none n a))
+only cs n (suc a) h = absurd (true≢false (sym h ∙ none n a))
 
 pub loop-a-init : goal.loop-a-init
 loop-a-init c = (refl, refl, only c.args.self.now.channels.now 15)
@@ -47,8 +37,10 @@ loop-a-smaller c = let o = c.in-Some.ensures in fewer c.loop-a.marks c.in-Some.a
 pub loop-a-preserved : goal.loop-a-preserved
 loop-a-preserved c =
     let o = c.in-Some.ensures in
-    let i = c.loop-a.invariant in (
+    let i = c.loop-a.invariant in
+    let m = c.loop-a.marks in
+    let a = c.in-Some.a in (
       simp length-set i.0,
-      kept c.loop-a.marks c.in-Some.a 0 o.0 i.1,
-      more (Way c.args.self.now.channels.now) c.loop-a.marks c.in-Some.a (o.2 i.2) i.2,
+      after_set (λ b v. has m b ≡ true → v ≡ true) m a true false o.0 (λ _. refl) (λ b _ h. h) 0 i.1,
+      after_set (λ b v. v ≡ true → Way c.args.self.now.channels.now b) m a true false o.0 (λ _. o.2 i.2) (λ b _. i.2 b),
     )
