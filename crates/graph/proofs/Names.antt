@@ -37,9 +37,9 @@ module _ (rows : List NameRow) (used : ℕ) (x : NameRow) (h : used ≤ length r
       (λ k l. let u : k < used = omega (arith, many) in rw (row k u) (f k u))
 
   -- a search for the name tells whether it is repeated
-  pub is_found_so : (o : Option ℕ) → FirstIs (λ a b. bytes_eq a.name b.name) rows used x o → is_some o ≡ repeated (kept rows used) x.name
-  is_found_so (Some i) h = sym (is_found i h.0 h.1)
-  is_found_so None h = sym (is_absent h)
+  pub search_tells : (o : Option ℕ) → FirstIs (λ a b. bytes_eq a.name b.name) rows used x o → is_some o ≡ repeated (kept rows used) x.name
+  search_tells (Some i) h = sym (is_found i h.0 h.1)
+  search_tells None h = sym (is_absent h)
 
 -- what adding to a table with room leaves
 pub added : (xs : List NameRow) (n : ℕ) (x : NameRow) (ys : List NameRow) (m : ℕ) (o : Result ℕ NameRow) → n < length xs → AddedIs xs n x ys m o

@@ -11,6 +11,7 @@ use fields::{Field, Kind};
 use table::Table;
 
 // What a file states: the first `n` actors and the first `m` channels.
+// Arrays and their counts, as a graph keeps them.
 #[derive(Clone, Copy)]
 pub struct Parts {
     pub actors: [Actor; 16],

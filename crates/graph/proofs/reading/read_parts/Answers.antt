@@ -2,7 +2,7 @@ use Rattle.std.proofs.Common.{◌≡◌, false, eqb, length, take, refl, ◌∙�
 use Rattle.std.proofs.lemmas.List.{length-take-le}
 use Rattle.std.proofs.lemmas.Result.{err_from_is_err_and}
 use Rattle.std.proofs.lemmas.Bool.Decides.{nat_tests}
-use Rattle.graph.proofs.Files.{past_head, past_actors, past_all, all_stated, head_bounds}
+use Rattle.graph.proofs.Files.{past_head, past_actors, past_all, head_bounds}
 use Rattle.graph.proofs.reading.read_parts.Goals as goal
 
 pub returns-in_err-channels : goal.returns-in_err-channels
@@ -24,9 +24,3 @@ returns-in_err-end c =
     rw (p.1, p.2, e.1)
     (past_all c.args.bytes.now h.actors h.channels _ _ _ _ _ h.within c.in_ok-head.ensures c.in_ok-actors.ensures c.in_ok-channels.ensures
     ∙ rw some refl)
-
-pub returns : goal.returns
-returns c =
-    let h = c.in_ok-head.head in
-    all_stated c.args.bytes.now h.actors h.channels _ _ _ _ _ h.within c.in_ok-head.ensures c.in_ok-actors.ensures c.in_ok-channels.ensures
-    c.in_ok-end.ensures

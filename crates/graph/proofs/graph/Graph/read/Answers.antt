@@ -1,30 +1,13 @@
 use Rattle.std.proofs.Common.{◌≡◌, None, refl, arith}
 use Rattle.std.proofs.lemmas.Result.{err_from_is_err_and}
 use Rattle.graph.specs.declared.fault.Fault.TheVariants.{Unbalanced}
-use Rattle.graph.proofs.Files.{stated_read, stated_actors, head_bounds}
+use Rattle.graph.proofs.Files.{stated_read, stated_actors}
 use Rattle.graph.proofs.graph.Graph.read.Goals as goal
 
 pub returns-in-Some : goal.returns-in-Some
 returns-in-Some c =
     let s = c.in_ok-actors.ensures in
     record { said = rw (stated_read _ _ s) (rw (stated_actors _ _ s) c.in-Some.ensures); back = tt }
-
-pub invariant_of-result : goal.invariant_of-result
-invariant_of-result c =
-    let s = c.in_ok-actors.ensures in
-    let o = rw c.in_ok-counts.ensures.ok_part at c.counts.ensures in
-    record {
-      few = head_bounds _ _ s.counted;
-      full = (s.size.0, s.size.1, o.3);
-      idle_actors = s.unused.0;
-      idle_channels = s.unused.1;
-      named = s.good;
-      limited = s.sound;
-      whole = λ a h. ∣ c.in_default.ensures a h ∣₁;
-      solves = o.0;
-      small = o.1;
-      least = o.2;
-    }
 
 pub returns-in_err-counts-clause-said : goal.returns-in_err-counts-clause-said
 returns-in_err-counts-clause-said c =
