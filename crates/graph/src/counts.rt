@@ -6,14 +6,14 @@ use crate::wiring::Wiring;
 
 impl Wiring<'_> {
     // The actor that lags behind on the first channel out of balance, if there is one.
-    fn lagging(&self, n: &[u16; 16]) -> Option<usize>
-        ensures { LagsIs self.now.channels.now n.now result }
+    fn lagging(&self, counts: &[u16; 16]) -> Option<usize>
+        ensures { LagsIs self.now.channels.now counts.now result }
     {
         for channel in self.channels {
             let source = channel.source as usize;
             let dest = channel.dest as usize;
-            let made = channel.p as u32 * n[source] as u32;
-            let used = channel.q as u32 * n[dest] as u32;
+            let made = channel.p as u32 * counts[source] as u32;
+            let used = channel.q as u32 * counts[dest] as u32;
             if made < used {
                 return Some(source);
             }
@@ -28,9 +28,9 @@ impl Wiring<'_> {
     fn ones(&self) -> [u16; 16]
         ensures { Ones self.now.actors result }
     {
-        let mut n = [0; 16];
-        n[..self.actors].fill(1);
-        n
+        let mut counts = [0; 16];
+        counts[..self.actors].fill(1);
+        counts
     }
 
     // The least counts, of 1 to 4096, that balance every channel, if there are any. A count that lags is too low in
@@ -38,13 +38,13 @@ impl Wiring<'_> {
     pub fn counts(&self) -> Option<[u16; 16]>
         ensures { CountsIs self.now.actors self.now.channels.now result }
     {
-        let mut n = self.ones();
-        while let Some(a) = self.lagging(&n) {
-            if n[a] >= 4096 {
+        let mut counts = self.ones();
+        while let Some(actor) = self.lagging(&counts) {
+            if counts[actor] >= 4096 {
                 return None;
             }
-            n[a] += 1;
+            counts[actor] += 1;
         }
-        Some(n)
+        Some(counts)
     }
 }

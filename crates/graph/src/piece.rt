@@ -28,8 +28,8 @@ impl Wiring<'_> {
     {
         let mut marks = [false; 16];
         marks[0] = true;
-        while let Some(a) = self.border(&marks) {
-            marks[a] = true;
+        while let Some(actor) = self.border(&marks) {
+            marks[actor] = true;
         }
         marks
     }

@@ -11,29 +11,29 @@ rises : (n : List ℕ) (a v : ℕ) → a < length n → length n ≡ 16 → v �
 rises n a v h e r le =
     omega (arith, sum_by-set (λ (x : ℕ). x) n a v 0 h, sum_by_le (λ (x : ℕ). x) 4096 (set n a v) (All-from_get_or (λ (x : ℕ). x ≤ 4096) (set n a v) 0 (λ b _. le b)), length-set n a v)
 
-pub returns-then-n-a-ge4096 : goal.returns-then-n-a-ge4096
-returns-then-n-a-ge4096 c =
+pub returns-then-counts-actor-ge4096 : goal.returns-then-counts-actor-ge4096
+returns-then-counts-actor-ge4096 c =
     λ m s small. let o = c.in-Some.ensures in
-    omega (arith, small c.in-Some.a (o.1 c.args.self.now.actors c.args.self.now.ends), o.2 m s.1 (c.loop-a.invariant.3 m s), c.if-n-a-ge4096.true)
+    omega (arith, small c.in-Some.actor (o.1 c.args.self.now.actors c.args.self.now.ends), o.2 m s.1 (c.loop-actor.invariant.3 m s), c.if-counts-actor-ge4096.true)
 
 -- a count below 4096 raised by one
 raised : (n : List ℕ) (a v : ℕ) → a < length n → v ≡ at n a + 1 → at n a < 4096 → ((b : ℕ) → at n b ≤ 4096) → (b : ℕ) → at (set n a v) b ≤ 4096
 raised n a v h e l f = after_set (λ _ v. v ≤ 4096) n a v 0 h (omega arith) (λ b _. f b)
 
-pub loop-a-smaller : goal.loop-a-smaller
-loop-a-smaller c =
+pub loop-actor-smaller : goal.loop-actor-smaller
+loop-actor-smaller c =
     let o = c.in-Some.ensures in
-    let i = c.loop-a.invariant in
-    rises c.loop-a.n c.in-Some.a _ o.0 i.0 (omega arith) (raised c.loop-a.n c.in-Some.a _ o.0 (omega arith) (omega (arith, c.if-n-a-ge4096.false)) i.2)
+    let i = c.loop-actor.invariant in
+    rises c.loop-actor.counts c.in-Some.actor _ o.0 i.0 (omega arith) (raised c.loop-actor.counts c.in-Some.actor _ o.0 (omega arith) (omega (arith, c.if-counts-actor-ge4096.false)) i.2)
 
-pub loop-a-preserved : goal.loop-a-preserved
-loop-a-preserved c =
+pub loop-actor-preserved : goal.loop-actor-preserved
+loop-actor-preserved c =
     let o = c.in-Some.ensures in
-    let i = c.loop-a.invariant in
-    let n = c.loop-a.n in
-    let a = c.in-Some.a in (
+    let i = c.loop-actor.invariant in
+    let n = c.loop-actor.counts in
+    let a = c.in-Some.actor in (
       simp length-set i.0,
       after_set (λ b v. b < c.args.self.now.actors → 1 ≤ v) n a _ 0 o.0 (λ _. omega arith) (λ b _. i.1 b),
-      raised n a _ o.0 (omega arith) (omega (arith, c.if-n-a-ge4096.false)) i.2,
+      raised n a _ o.0 (omega arith) (omega (arith, c.if-counts-actor-ge4096.false)) i.2,
       λ m s. after_set (λ b v. v ≤ m b) n a _ 0 o.0 (omega (arith, o.2 m s.1 (i.3 m s))) (λ b _. i.3 m s b),
     )

@@ -14,5 +14,5 @@ only : (cs : List Channel) (n a : ℕ) → has (true ∷ replicate n false) a �
 only cs n zero h = start
 only cs n (suc a) h = absurd (true≢false (sym h ∙ none n a))
 
-pub loop-a-init : goal.loop-a-init
-loop-a-init c = (refl, refl, only c.args.self.now.channels.now 15)
+pub loop-actor-init : goal.loop-actor-init
+loop-actor-init c = (refl, refl, only c.args.self.now.channels.now 15)
