@@ -6,7 +6,7 @@ use Rattle.fields.proofs.Frames.{reads}
 use Rattle.graph.specs.declared.channel.Channel.{Channel}
 use Rattle.graph.specs.declared.actor.Actor.{Actor}
 use Rattle.graph.specs.Rules.{GoodActor, GoodChannel}
-use Rattle.graph.specs.File.{two, actor_value, actor_bytes, one_actor, channel_value, channel_bytes, channel_of, one_channel}
+use Rattle.graph.specs.File.{two, actor_value, actor_bytes, one_actor, channel_value, channel_bytes, one_channel}
 
 module _ (a : Actor) (e : length a.name ≡ 8) where
   name_is : take 8 (actor_value a) ≡ a.name
@@ -22,12 +22,6 @@ pub one_actor_lem : (n : ℕ) (us : List Actor) (a : Actor) (rest : List ℕ) �
 one_actor_lem n us a rest l =
     rw (reads kind.Actor n (actor_value a) rest (simp length-append (omega (arith, l.0))))
     (rw (name_is a l.0, time_is a l.0, l.1, l.2, l.3) refl)
-
-channel_is : (c : Channel) → channel_of (channel_value c) ≡ c
-channel_is c =
-    let e : c.capacity / 256 * 256 + c.capacity % 256 ≡ c.capacity = omega arith in
-    let f : c.tokens / 256 * 256 + c.tokens % 256 ≡ c.tokens = omega arith in
-    rw (e, f) refl
 
 pub one_channel_lem : (actors n : ℕ) (cs : List Channel) (c : Channel) (rest : List ℕ) → GoodChannel actors cs c
     → one_channel actors n cs (channel_bytes c ++ rest) ≡ Ok (c, rest)

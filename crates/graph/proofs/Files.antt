@@ -1,12 +1,12 @@
 -- A file that is written is read.
-use Rattle.std.proofs.Common.{◌≡◌, ℕ, ◌+◌, ◌<◌, ◌≤◌, true, List, [], ◌∷◌, ◌++◌, length, get_or, take, Ok, sym, refl, ap, ◌∙◌, arith}
+use Rattle.std.proofs.Common.{◌≡◌, ℕ, ◌+◌, ◌≤◌, true, List, [], ◌∷◌, ◌++◌, length, take, Ok, sym, refl, ap, ◌∙◌, arith}
 use Rattle.std.specs.List.{flat_map}
 use Rattle.std.proofs.lemmas.List.{append-nil, length-take-le, nil_from_length}
 use Rattle.std.proofs.lemmas.Bool.Decides.{nat_tests}
 use Rattle.fields.specs.declared.field.Kind.TheVariants as kind
 use Rattle.fields.proofs.Frames.{reads}
 use Rattle.graph.specs.declared.channel.Channel.{Channel}
-use Rattle.graph.specs.Channels.{blank, Ends, Every}
+use Rattle.graph.specs.Channels.{blank}
 use Rattle.graph.specs.declared.actor.Actor.{Actor}
 use Rattle.graph.specs.declared.reading.Parts.{Parts}
 use Rattle.graph.specs.Rules.{headed, nobody, vacant, GoodActor, GoodActors, GoodChannel, GoodChannels}
@@ -43,15 +43,7 @@ file_read us cs h g k =
     ∙ (past_actors (length us) (length cs) _ us (flat_map channel_bytes cs) refl g refl
     ∙ past_channels (length us) (length cs) us _ cs [] (sym (append-nil (flat_map channel_bytes cs))) k refl)
 
--- the ends of a good channel
-pub ends : (n : ℕ) (cs : List Channel) → GoodChannels n cs → Every (Ends n) cs
-ends n cs g k h =
-    let e = (g k h).0 in
-    let c = get_or cs k blank in
-    let s : c.source < n = grind (arith, nat_tests) in
-    let d : c.dest < n = grind (arith, nat_tests) in
-    (s, d)
-
+-- the limits of a head, one by one
 pub head_bounds : (n m : ℕ) → headed n m ≡ true → (1 ≤ n) × (n ≤ 16) × (m ≤ 32)
 head_bounds n m h =
     let a : 1 ≤ n = grind (arith, nat_tests) in

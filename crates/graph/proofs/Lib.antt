@@ -1,4 +1,5 @@
 pub mod Bytes
+pub mod Sets
 pub mod Many
 pub mod Actors
 pub mod Names

@@ -1,8 +1,9 @@
 -- A list of items that is written is read, whatever the kind.
-use Rattle.std.proofs.Common.{◌≡◌, ℕ, zero, suc, ◌+◌, ◌-◌, ◌<◌, ◌≤◌, List, [], ◌∷◌, ◌++◌, length, get_or, take, drop, set, replicate, Ok, Err, Result, sym, refl, ap, ◌∙◌, ⊎_elim, suc-add, zero-add, arith, length-set, drop-cons, take-suc}
+use Rattle.std.proofs.Common.{◌≡◌, ℕ, zero, suc, ◌+◌, ◌-◌, ◌<◌, ◌≤◌, List, [], ◌∷◌, ◌++◌, length, get_or, take, drop, set, replicate, Ok, Err, Result, sym, refl, ap, ◌∙◌, ⊎_elim, suc-add, zero-add, arith, length-append, length-set, drop-cons, take-suc}
+use native.Mathlib.Nat.{sub-zero}
 use Rattle.std.specs.List.{flat_map}
 use Rattle.std.proofs.lemmas.Bool.{cases_eq}
-use Rattle.std.proofs.lemmas.List.{take_at, take_all, drop_all, take-append-le, take_more_set, get_or_append_left, get_or_push, length_push, append_assoc, flat_map_more, drop-set-lt, drop-drop, drop-replicate}
+use Rattle.std.proofs.lemmas.List.{take_at, drop_at, take_all, length-take-le, length-drop, length-replicate, take-replicate, drop_all, take-append-le, take_more_set, get_or_append_left, get_or_push, length_push, append_assoc, flat_map_more, drop-set-lt, drop-drop, drop-replicate}
 use Rattle.graph.specs.declared.fault.Fault.{Fault}
 use Rattle.graph.specs.Rules.{Each}
 use Rattle.graph.specs.File.{many_of}
@@ -35,6 +36,28 @@ module _ {X : Type 0} (d : X) (bytes : X → List ℕ) (Good : List X → X → 
             ∙ (sym (drop-drop 1 i list)
             ∙ (ap (drop 1) f.unused_after
             ∙ (drop-replicate 1 (long - i) unused ∙ ap (λ (n : ℕ). replicate n unused) (omega arith))));
+      }
+
+  -- the front of an array of unused places, of which none is filled
+  pub filled_none : (unused : X) (long n : ℕ) (xs : List ℕ) → n ≤ long → Filled d unused n bytes Good xs (take n (replicate long unused)) 0 xs
+  filled_none unused long n xs h = record {
+    size = length-take-le n _ (omega (arith, length-replicate long unused));
+    as_written = refl;
+    good = λ k l. absurd (omega arith);
+    unused_after = rw sub-zero (take-replicate n long unused h);
+  }
+
+  -- the array, once its front is filled
+  pub filled_front : (unused : X) (long n i : ℕ) (xs : List ℕ) (list : List X) (rest : List ℕ) → n ≤ long → i ≡ n
+      → Filled d unused n bytes Good xs list i rest → Filled d unused long bytes Good xs (list ++ drop n (replicate long unused)) n rest
+  filled_front unused long n i xs list rest h e f =
+      let all : take i list ≡ list = take_all i list (omega (arith, f.size)) in
+      let front : take n (list ++ drop n (replicate long unused)) ≡ list = take_at list _ n f.size in
+      record {
+        size = simp (length-append, length-drop) (omega (arith, f.size, length-replicate long unused));
+        as_written = rw front (rw all at f.as_written);
+        good = rw front (rw all at f.good);
+        unused_after = drop_at list _ n f.size ∙ drop-replicate n long unused;
       }
 
   module _ (one : ℕ → List X → List ℕ → Result (X × List ℕ) Fault)

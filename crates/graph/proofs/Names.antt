@@ -1,13 +1,14 @@
 -- A name repeated among those in a table.
-use Rattle.std.proofs.Common.{◌≡◌, ℕ, zero, suc, ◌+◌, ◌<◌, ◌≤◌, true, false, ◌≢◌, List, [], ◌∷◌, length, get_or, take, set, Ok, Err, Result, sym, refl, ap, ◌∙◌, ⊎_elim, arith, length-set, get_or-set_other, get_or-set_same}
+use Rattle.std.proofs.Common.{◌≡◌, ℕ, zero, suc, ◌+◌, ◌<◌, ◌≤◌, true, false, List, [], ◌∷◌, length, get_or, take, set, Some, None, Option, Ok, Err, Result, sym, refl, ap, ◌∙◌, arith, length-set}
 use Rattle.std.specs.Str.{bytes_eq}
 use Rattle.std.proofs.lemmas.List.{get_or-map, get_or-take, length-map, length-take-le, take_more_set, map_push}
-use Rattle.std.proofs.lemmas.Bool.{cases_eq}
-use Rattle.table.specs.Find.{AddedIs, Tops}
+use Rattle.std.specs.Option.{is_some}
+use Rattle.table.specs.Find.{FirstIs, AddedIs, Tops}
 use Rattle.graph.specs.declared.actor.Actor.{Actor}
 use Rattle.graph.specs.declared.actor.NameRow.{NameRow}
 use Rattle.graph.specs.Rules.{names, repeated}
 use Rattle.graph.specs.Answers.{kept}
+use Rattle.graph.proofs.Sets.{after_set}
 
 found : (ns : List (List ℕ)) (name : List ℕ) (i : ℕ) → i < length ns → bytes_eq (get_or ns i []) name ≡ true → repeated ns name ≡ true
 found [] name i h e = absurd (omega arith)
@@ -27,13 +28,18 @@ module _ (rows : List NameRow) (used : ℕ) (x : NameRow) (h : used ≤ length r
       get_or-map (λ (r : NameRow). r.name) (take used rows) k x [] (omega (arith, length-take-le used rows h))
       ∙ ap (λ (r : NameRow). r.name) (get_or-take used rows k x l)
 
-  pub is_found : (i : ℕ) → i < used → bytes_eq (get_or rows i x).name x.name ≡ true → repeated (kept rows used) x.name ≡ true
+  is_found : (i : ℕ) → i < used → bytes_eq (get_or rows i x).name x.name ≡ true → repeated (kept rows used) x.name ≡ true
   is_found i l e = found (kept rows used) x.name i (omega (arith, many)) (rw (row i l) e)
 
-  pub is_absent : ((k : ℕ) → k < used → bytes_eq (get_or rows k x).name x.name ≡ false) → repeated (kept rows used) x.name ≡ false
+  is_absent : ((k : ℕ) → k < used → bytes_eq (get_or rows k x).name x.name ≡ false) → repeated (kept rows used) x.name ≡ false
   is_absent f =
       absent (kept rows used) x.name
       (λ k l. let u : k < used = omega (arith, many) in rw (row k u) (f k u))
+
+  -- a search for the name tells whether it is repeated
+  pub search_tells : (o : Option ℕ) → FirstIs (λ a b. bytes_eq a.name b.name) rows used x o → is_some o ≡ repeated (kept rows used) x.name
+  search_tells (Some i) h = sym (is_found i h.0 h.1)
+  search_tells None h = sym (is_absent h)
 
 -- what adding to a table with room leaves
 pub added : (xs : List NameRow) (n : ℕ) (x : NameRow) (ys : List NameRow) (m : ℕ) (o : Result ℕ NameRow) → n < length xs → AddedIs xs n x ys m o
@@ -56,7 +62,5 @@ kept_more rows ys out used m i r a d e h l n k = (
 pub tops_more : (xs ys : List NameRow) (n m i : ℕ) (x : NameRow) → (ys ≡ set xs n x) × (m ≡ n + 1) → n < length xs → x.field ≡ i + 1
     → Tops {X = NameRow} (λ r. r.field) xs n i → Tops {X = NameRow} (λ r. r.field) ys m (i + 1)
 tops_more xs ys n m i x d h e t k z l =
-    ⊎_elim
-    (λ (s : k ≡ n). rw (d.0, s, get_or-set_same xs n x z h, e) (omega arith))
-    (λ (ne : k ≢ n). let b = t k z (omega arith) in rw d.0 (rw get_or-set_other (omega arith)))
-    (cases_eq k n)
+    rw d.0
+    (after_set (λ k r. k < n + 1 → r.field ≤ i + 1) xs n x z h (λ _. omega arith) (λ k ne l. let b = t k z (omega arith) in omega arith) k (omega arith))

@@ -1,5 +1,6 @@
 -- A way leads into every set around actor 0, so that the marks tell who is joined.
-use Rattle.std.proofs.Common.{◌≡◌, ℕ, Bool, true, false, List, Some, None, Option, sym, ◌∙◌, arith}
+use Rattle.std.proofs.Common.{ℕ, Bool, List, Some, None, Option, sym, ◌∙◌}
+use Rattle.std.proofs.lemmas.Bool.{true≢false}
 use Rattle.graph.specs.declared.channel.Channel.{Channel}
 use Rattle.graph.specs.Piece.{Way, start, along, back, Joined, Marks, UnmarkedIs, ApartIs, has}
 
@@ -8,11 +9,8 @@ way_joined cs _ start w = w.1
 way_joined cs _ (along k h r) w = sym (w.2 k h) ∙ way_joined cs _ r w
 way_joined cs _ (back k h r) w = w.2 k h ∙ way_joined cs _ r w
 
-pub true_not_false : true ≡ false → ⊥
-true_not_false e = let z : ◌≡◌ {A = ℕ} 0 1 = cc in omega arith
-
 -- the marks of the joined actors name the lowest that is apart
 pub marked_apart : (n : ℕ) (cs : List Channel) (marks : List Bool) → Marks cs marks → (o : Option ℕ) → UnmarkedIs n marks o → ApartIs n cs o
 marked_apart n cs marks m (Some a) u =
-    (u.0, λ w. true_not_false (sym (way_joined cs a w (has marks, m.start, m.closed)) ∙ u.1), λ b h. m.sound b (u.2 b h))
+    (u.0, λ w. true≢false (sym (way_joined cs a w (has marks, m.start, m.closed)) ∙ u.1), λ b h. m.sound b (u.2 b h))
 marked_apart n cs marks m None u = λ b h. m.sound b (u b h)

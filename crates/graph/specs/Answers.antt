@@ -1,6 +1,6 @@
 -- What the parts of the reader answer: what is accepted is as written and keeps its rules, what is refused is refused by File.
 -- Assumes nothing.
-use Rattle.std.specs.Prelude.{◌≡◌, ℕ, ◌+◌, ◌-◌, ◌<◌, true, List, [], ◌∷◌, ◌++◌, map, length, take, drop, replicate, Ok, Err, Result, slice_index}
+use Rattle.std.specs.Prelude.{◌≡◌, ℕ, ◌+◌, ◌-◌, ◌<◌, true, List, [], ◌++◌, map, length, take, drop, replicate, Ok, Err, Result}
 use Rattle.std.specs.Borrow.{Bor}
 use Rattle.std.specs.List.{flat_map}
 use Rattle.graph.specs.Channels.{blank}
@@ -10,16 +10,14 @@ use Rattle.graph.specs.declared.actor.NameRow.{NameRow}
 use Rattle.fields.specs.declared.fault.Fault.TheVariants.{More}
 use Rattle.graph.specs.declared.fault.Fault.{Fault}
 use Rattle.graph.specs.declared.fault.Fault.TheVariants.{Fields}
+use Rattle.graph.specs.declared.head.Head.{Head}
 use Rattle.graph.specs.declared.reading.Parts.{Parts}
 use Rattle.graph.specs.Rules.{headed, nobody, vacant, GoodAfter, GoodActor, GoodChannel, GoodActors, GoodChannels, Each}
 use Rattle.graph.specs.File.{head_bytes, head_of, actor_value, actor_bytes, actor_of, channel_value, channel_bytes, channel_of, actor_after, channel_at, one_actor, one_channel, many_of, written, file_of}
 
-abbrev pub HeadIs : List ℕ → Result (ℕ × ℕ × Bor (List ℕ)) Fault → Type 0
-HeadIs xs (Ok r) = (xs ≡ head_bytes r.0 r.1 ++ r.2.now) × (headed r.0 r.1 ≡ true)
+abbrev pub HeadIs : List ℕ → Result (Head × Bor (List ℕ)) Fault → Type 0
+HeadIs xs (Ok r) = xs ≡ head_bytes r.0.actors r.0.channels ++ r.1.now
 HeadIs xs (Err f) = head_of xs ≡ Err f
-
-abbrev pub HeadValueIs : List ℕ → ℕ × ℕ → Type 0
-HeadValueIs v r = (slice_index v 0 ≡ r.0) × (slice_index v 1 ≡ r.1) × (v ≡ r.0 ∷ r.1 ∷ [])
 
 abbrev pub ActorValueIs : List ℕ → Actor → Type 0
 ActorValueIs v a = (actor_of v ≡ a) × (v ≡ actor_value a) × (length a.name ≡ 8)

@@ -1,10 +1,9 @@
-ghost use Rattle.std.specs.Prelude.{◌≡◌};
 ghost use Rattle.std.specs.Str.{bytes_eq};
 
 use table::Record;
 
 // A task: its name, of 1 to 8 printable bytes and then zeros, and the ticks that a firing of it takes.
-#[derive(Clone, Copy)]
+#[derive(Clone, Copy, PartialEq, Eq, Debug)]
 pub struct Actor {
     pub name: [u8; 8],
     pub time: u16,
@@ -17,20 +16,13 @@ pub struct NameRow {
     pub field: u8,
 }
 
-// Whether two names are the same, byte for byte.
-fn same_bytes(a: &[u8], b: &[u8]) -> bool
-    ensures { result ≡ bytes_eq a.now b.now }
-{
-    a == b
-}
-
 impl Record for NameRow {
     ghost alike = { λ a b. bytes_eq a.name b.name };
 
     ghost stamped = { λ a. a.field };
 
     fn same(&self, other: &NameRow) -> bool {
-        same_bytes(&self.name, &other.name)
+        self.name == other.name
     }
 
     fn stamp(&self) -> u32 {

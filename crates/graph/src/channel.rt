@@ -1,5 +1,5 @@
 // A buffer from one actor to another, perhaps the same.
-#[derive(Clone, Copy)]
+#[derive(Clone, Copy, PartialEq, Eq, Debug)]
 pub struct Channel {
     // the actors at its ends
     pub source: u8,

@@ -3,7 +3,7 @@ ghost use Rattle.graph.specs.declared.fault.Fault.TheVariants.{Fields};
 ghost use Rattle.graph.specs.Faults.{layer_of, number_of, place_of};
 
 // Why bytes are no graph, or a graph is not written.
-#[derive(Clone, Copy)]
+#[derive(Clone, Copy, PartialEq, Eq, Debug)]
 pub enum Fault {
     // A fault of the layer below, whole.
     Fields(fields::Fault),
@@ -67,12 +67,12 @@ impl Fault {
     {
         match self {
             Fault::Fields(e) => e.place(),
-            Fault::Head(field) => field,
-            Fault::Name(field) => field,
-            Fault::Repeated(field) => field,
-            Fault::Time(field) => field,
-            Fault::End(field) => field,
-            Fault::Limit(field) => field,
+            Fault::Head(field)
+            | Fault::Name(field)
+            | Fault::Repeated(field)
+            | Fault::Time(field)
+            | Fault::End(field)
+            | Fault::Limit(field) => field,
             Fault::Apart(actor) => actor,
             Fault::Unbalanced => 0,
         }

@@ -2,11 +2,10 @@ ghost use Rattle.std.specs.Prelude.{◌≡◌, ℕ, ◌<◌, ◌≤◌, length, 
 ghost use Rattle.graph.specs.File.{file_of};
 ghost use Rattle.graph.specs.Meaning.{writing, ReadBy};
 
-use crate::counts::counts;
 use crate::fault::Fault;
 use crate::graph::Graph;
-use crate::piece::apart;
 use crate::reading::{Parts, read_parts};
+use crate::wiring::Wiring;
 
 impl Graph {
     // The graph whose file these bytes are, or the one refusal.
@@ -20,18 +19,20 @@ impl Graph {
             channels,
             m,
         } = read_parts(bytes)?;
-        if let Some(a) = apart(n, &channels[0..m]) {
-            return Err(Fault::Apart(a as u8));
+        let wiring = Wiring {
+            actors: n,
+            channels: &channels[..m],
+        };
+        if let Some(actor) = wiring.apart() {
+            return Err(Fault::Apart(actor as u8));
         }
-        match counts(n, &channels[0..m]) {
-            None => Err(Fault::Unbalanced),
-            Some(counts) => Ok(Graph {
-                actors,
-                channels,
-                n,
-                m,
-                counts,
-            }),
-        }
+        let counts = wiring.counts().ok_or(Fault::Unbalanced)?;
+        Ok(Graph {
+            actors,
+            channels,
+            n,
+            m,
+            counts,
+        })
     }
 }

@@ -7,9 +7,11 @@ mod counts;
 mod fault;
 mod file;
 mod graph;
+mod head;
 mod piece;
 mod questions;
 mod reading;
+mod wiring;
 mod writing;
 
 pub use actor::Actor;

@@ -10,20 +10,20 @@ impl Graph {
     pub fn actors(&self) -> &[Actor]
         ensures { result.now ≡ actors_in self.now }
     {
-        &self.actors[0..self.n]
+        &self.actors[..self.n]
     }
 
     // The channels, by number.
     pub fn channels(&self) -> &[Channel]
         ensures { result.now ≡ channels_in self.now }
     {
-        &self.channels[0..self.m]
+        &self.channels[..self.m]
     }
 
     // The repetition counts, by actor: how often each fires in one iteration of the graph.
     pub fn counts(&self) -> &[u16]
         ensures { result.now ≡ counts_in self.now }
     {
-        &self.counts[0..self.n]
+        &self.counts[..self.n]
     }
 }

@@ -1,15 +1,17 @@
 // The parts of a file, read field by field with their checks in order.
 ghost use Rattle.std.specs.Prelude.{◌≡◌, ℕ, ◌+◌, ◌*◌, ◌<◌, ◌≤◌, ◌++◌, length};
 ghost use Rattle.graph.specs.Rules.{goes, named, repeated, timed, ended, limited, headed};
-ghost use Rattle.graph.specs.Answers.{HeadIs, HeadValueIs, ActorValueIs, ChannelValueIs, ActorIs, ChannelIs, ActorsIs, ChannelsIs, NoMoreIs, PartsIs, kept};
+ghost use Rattle.graph.specs.Answers.{HeadIs, ActorValueIs, ChannelValueIs, ActorIs, ChannelIs, ActorsIs, ChannelsIs, NoMoreIs, PartsIs, kept};
 
 use crate::actor::{Actor, NameRow};
 use crate::channel::Channel;
 use crate::fault::Fault;
+use crate::head::Head;
 use fields::{Field, Kind};
 use table::Table;
 
 // What a file states: the first `n` actors and the first `m` channels.
+// Arrays and their counts, as a graph keeps them.
 #[derive(Clone, Copy)]
 pub struct Parts {
     pub actors: [Actor; 16],
@@ -41,36 +43,14 @@ const NO_CHANNEL: Channel = Channel {
 fn is_head(actors: u8, channels: u8) -> bool
     ensures { result ≡ headed actors channels }
 {
-    actors >= 1 && actors <= 16 && channels <= 32
-}
-
-// The two counts that a head's value states.
-fn head_of(value: &[u8; 2]) -> (u8, u8)
-    ensures { HeadValueIs value.now result }
-{
-    (value[0], value[1])
-}
-
-// Reads the head: the numbers of actors and of channels, and the bytes after it.
-fn head<'a>(bytes: &'a [u8]) -> Result<(u8, u8, &'a [u8]), Fault>
-    ensures { HeadIs bytes.now result }
-{
-    let (field, rest) = fields::read(bytes, Kind::Head, 0)?;
-    let Field::Head(value) = field else {
-        unreachable()
-    };
-    let (actors, channels) = head_of(value);
-    if !is_head(actors, channels) {
-        return Err(Fault::Head(0));
-    }
-    Ok((actors, channels, rest))
+    (1..=16).contains(&actors) && channels <= 32
 }
 
 // Whether a byte may come next in a name; `over` says that a zero has been.
 fn may_follow(over: bool, b: u8) -> bool
     ensures { result ≡ goes over b }
 {
-    b == 0 || (!over && b >= 33 && b <= 126)
+    b == 0 || (!over && b.is_ascii_graphic())
 }
 
 // Whether a name has 1 to 8 bytes of 33 to 126, and zeros after them.
@@ -78,12 +58,11 @@ fn is_named(name: &[u8; 8]) -> bool
     ensures { result ≡ named name.now }
 {
     let mut over = false;
-    for i in 0..8 {
-        let b = name[i];
-        if !may_follow(over, b) {
+    for b in name {
+        if !may_follow(over, *b) {
             return false;
         }
-        over = b == 0;
+        over = *b == 0;
     }
     name[0] != 0
 }
@@ -92,28 +71,28 @@ fn is_named(name: &[u8; 8]) -> bool
 fn is_repeated(seen: &Table<'_, NameRow>, name: [u8; 8]) -> bool
     ensures { result ≡ repeated (kept seen.now.rows.now seen.now.used) name }
 {
-    match seen.find(&NameRow { name, field: 0 }) {
-        Some(_) => true,
-        None => false,
-    }
+    seen.find(&NameRow { name, field: 0 }).is_some()
 }
 
 // Whether a time is within its limits.
 fn is_time(time: u16) -> bool
     ensures { result ≡ timed time }
 {
-    time >= 1 && time <= 4095
+    (1..=4095).contains(&time)
 }
 
 // The actor that a value states.
-fn actor_of(value: &[u8; 10]) -> Actor
-    ensures { ActorValueIs value.now result }
-{
-    let mut name = [0u8; 8];
-    name.copy_from_slice(&value[0..8]);
-    Actor {
-        name,
-        time: value[8] as u16 * 256 + value[9] as u16,
+impl From<&[u8; 10]> for Actor {
+    ghost from_gives = { λ value actor. ActorValueIs value.now actor };
+
+    fn from(value: &[u8; 10]) -> Actor {
+        let mut name = [0; 8];
+        name.copy_from_slice(&value[..8]);
+        let [.., high, low] = *value;
+        Actor {
+            name,
+            time: u16::from_be_bytes([high, low]),
+        }
     }
 }
 
@@ -127,9 +106,9 @@ fn actor<'a>(
 {
     let (field, rest) = fields::read(bytes, Kind::Actor, number)?;
     let Field::Actor(value) = field else {
-        unreachable()
+        unreachable!()
     };
-    let actor = actor_of(value);
+    let actor = Actor::from(value);
     if !is_named(&actor.name) {
         return Err(Fault::Name(number));
     }
@@ -140,26 +119,6 @@ fn actor<'a>(
         return Err(Fault::Time(number));
     }
     Ok((actor, rest))
-}
-
-// Reads so many actors, one after another, and gives the bytes after them.
-fn actors<'a>(bytes: &'a [u8], count: u8) -> Result<([Actor; 16], &'a [u8]), Fault>
-    requires { count ≤ 16 }
-    ensures { ActorsIs bytes.now count result }
-{
-    let mut list = [NO_ACTOR; 16];
-    let mut rows = [NO_NAME; 16];
-    let mut seen = Table::over(&mut rows);
-    let mut rest = bytes;
-    for i in 0..count {
-        let (actor, more) = actor(&seen, rest, 1 + i)?;
-        let name = actor.name;
-        // there is a row for each of the 16
-        let _ = seen.add(NameRow { name, field: 1 + i });
-        list[i as usize] = actor;
-        rest = more;
-    }
-    Ok((list, rest))
 }
 
 // Whether both ends of a channel are actors.
@@ -180,20 +139,23 @@ fn is_limited(channel: Channel) -> bool
         tokens,
         ..
     } = channel;
-    p >= 1 && q >= 1 && capacity >= 1 && capacity <= 4096 && tokens <= capacity
+    p >= 1 && q >= 1 && (1..=4096).contains(&capacity) && tokens <= capacity
 }
 
 // The channel that a value states.
-fn channel_of(value: &[u8; 8]) -> Channel
-    ensures { ChannelValueIs value.now result }
-{
-    Channel {
-        source: value[0],
-        dest: value[1],
-        p: value[2],
-        q: value[3],
-        capacity: value[4] as u16 * 256 + value[5] as u16,
-        tokens: value[6] as u16 * 256 + value[7] as u16,
+impl From<&[u8; 8]> for Channel {
+    ghost from_gives = { λ value channel. ChannelValueIs value.now channel };
+
+    fn from(value: &[u8; 8]) -> Channel {
+        let [source, dest, p, q, c1, c0, t1, t0] = *value;
+        Channel {
+            source,
+            dest,
+            p,
+            q,
+            capacity: u16::from_be_bytes([c1, c0]),
+            tokens: u16::from_be_bytes([t1, t0]),
+        }
     }
 }
 
@@ -203,9 +165,9 @@ fn channel<'a>(actors: u8, bytes: &'a [u8], number: u8) -> Result<(Channel, &'a 
 {
     let (field, rest) = fields::read(bytes, Kind::Channel, number)?;
     let Field::Channel(value) = field else {
-        unreachable()
+        unreachable!()
     };
-    let channel = channel_of(value);
+    let channel = Channel::from(value);
     if !is_ended(actors, channel) {
         return Err(Fault::End(number));
     }
@@ -215,44 +177,75 @@ fn channel<'a>(actors: u8, bytes: &'a [u8], number: u8) -> Result<(Channel, &'a 
     Ok((channel, rest))
 }
 
-// Reads so many channels, one after another, and gives the bytes after them.
-fn channels<'a>(actors: u8, bytes: &'a [u8], count: u8) -> Result<([Channel; 32], &'a [u8]), Fault>
-    requires few { actors ≤ 16 }
-    requires fit { count ≤ 32 }
-    ensures { ChannelsIs actors bytes.now count result }
-{
-    let mut list = [NO_CHANNEL; 32];
-    let mut rest = bytes;
-    for i in 0..count {
-        let (channel, more) = channel(actors, rest, 1 + actors + i)?;
-        list[i as usize] = channel;
-        rest = more;
+impl Head {
+    // Reads the head, and gives the bytes after it.
+    fn read<'a>(bytes: &'a [u8]) -> Result<(Head, &'a [u8]), Fault>
+        ensures { HeadIs bytes.now result }
+    {
+        let (field, rest) = fields::read(bytes, Kind::Head, 0)?;
+        let Field::Head(&[actors, channels]) = field else {
+            unreachable!()
+        };
+        if !is_head(actors, channels) {
+            return Err(Fault::Head(0));
+        }
+        Ok((Head { actors, channels }, rest))
     }
-    Ok((list, rest))
-}
 
-// Refuses bytes after the last of the fields.
-fn no_more(bytes: &[u8], actors: u8, channels: u8) -> Result<(), Fault>
-    requires few { actors ≤ 16 }
-    requires fit { channels ≤ 32 }
-    ensures { NoMoreIs bytes.now actors channels result }
-{
-    fields::end(bytes, 1 + actors + channels)?;
-    Ok(())
+    // Reads as many actors, one after another, and gives the bytes after them.
+    fn read_actors<'a>(self, bytes: &'a [u8]) -> Result<([Actor; 16], &'a [u8]), Fault>
+        ensures { ActorsIs bytes.now self.actors result }
+    {
+        let mut list = [NO_ACTOR; 16];
+        let mut rows = [NO_NAME; 16];
+        let mut seen = Table::over(&mut rows);
+        let mut rest = bytes;
+        for (i, place) in list[..self.actors as usize].iter_mut().enumerate() {
+            let number = 1 + i as u8;
+            (*place, rest) = actor(&seen, rest, number)?;
+            let name = place.name;
+            // there is a row for each of the 16
+            let _ = seen.add(NameRow {
+                name,
+                field: number,
+            });
+        }
+        Ok((list, rest))
+    }
+
+    // Reads as many channels, one after another, and gives the bytes after them.
+    fn read_channels<'a>(self, bytes: &'a [u8]) -> Result<([Channel; 32], &'a [u8]), Fault>
+        ensures { ChannelsIs self.actors bytes.now self.channels result }
+    {
+        let mut list = [NO_CHANNEL; 32];
+        let mut rest = bytes;
+        for (i, place) in list[..self.channels as usize].iter_mut().enumerate() {
+            (*place, rest) = channel(self.actors, rest, 1 + self.actors + i as u8)?;
+        }
+        Ok((list, rest))
+    }
+
+    // Refuses bytes after the last of the fields.
+    fn end(self, bytes: &[u8]) -> Result<(), Fault>
+        ensures { NoMoreIs bytes.now self.actors self.channels result }
+    {
+        fields::end(bytes, 1 + self.actors + self.channels)?;
+        Ok(())
+    }
 }
 
 // Reads head, actors, channels and the end.
 pub fn read_parts(bytes: &[u8]) -> Result<Parts, Fault>
     ensures { PartsIs bytes.now result }
 {
-    let (n, m, rest) = head(bytes)?;
-    let (actors, rest) = actors(rest, n)?;
-    let (channels, rest) = channels(n, rest, m)?;
-    no_more(rest, n, m)?;
+    let (head, rest) = Head::read(bytes)?;
+    let (actors, rest) = head.read_actors(rest)?;
+    let (channels, rest) = head.read_channels(rest)?;
+    head.end(rest)?;
     Ok(Parts {
         actors,
-        n: n as usize,
+        n: head.actors as usize,
         channels,
-        m: m as usize,
+        m: head.channels as usize,
     })
 }

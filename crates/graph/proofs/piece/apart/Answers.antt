@@ -1,5 +1,0 @@
-use Rattle.graph.proofs.Ways.{marked_apart}
-use Rattle.graph.proofs.piece.apart.Goals as goal
-
-pub returns : goal.returns
-returns c = marked_apart _ _ _ c.joined-marks.ensures c.unmarked.result c.unmarked.ensures
