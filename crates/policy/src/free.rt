@@ -77,10 +77,6 @@ impl Policy for Free {
     }
 
     fn lay(&mut self, a: u8) -> bool {
-        if !self.rows.is_idle(a) {
-            return false;
-        }
-        self.rows.give(a);
-        true
+        self.rows.lay(a)
     }
 }

@@ -155,10 +155,6 @@ impl Policy for Ring {
     }
 
     fn lay(&mut self, a: u8) -> bool {
-        if !self.rows.is_idle(a) {
-            return false;
-        }
-        self.rows.give(a);
-        true
+        self.rows.lay(a)
     }
 }

@@ -1,5 +1,5 @@
 ghost use Rattle.std.specs.Prelude.{◌≡◌, ℕ, ◌+◌, ◌-◌, ◌<◌, ◌≤◌, true, false, ◌&&◌, length, ◌==◌, ◌≢◌, nat_lt, slice_index};
-ghost use Rattle.policy.specs.Works.{WorksChecked, RowsMade};
+ghost use Rattle.policy.specs.Works.{WorksChecked, RowsMade, RowsLaid};
 
 use crate::fault::Fault;
 
@@ -21,9 +21,7 @@ fn wear(left: &mut [u16])
     ensures { (a : ℕ) → slice_index left.new a ≡ slice_index left.old a - 1 }
 {
     for x in left.iter_mut() {
-        if *x > 0 {
-            *x -= 1;
-        }
+        *x = x.saturating_sub(1);
     }
 }
 
@@ -32,29 +30,27 @@ impl Rows {
     pub(crate) fn check(works: &[u16]) -> Result<(), Fault>
         ensures { WorksChecked works.now result }
     {
-        if works.len() == 0 || works.len() > 16 {
+        if works.is_empty() || works.len() > 16 {
             return Err(Fault::Limits(0));
         }
-        for i in 0..works.len() {
-            if works[i] == 0 || works[i] > 4095 {
-                return Err(Fault::Limits(i as u8));
-            }
+        match works.iter().position(|work| !(1..=4095).contains(work)) {
+            Some(actor) => Err(Fault::Limits(actor as u8)),
+            None => Ok(()),
         }
-        Ok(())
     }
 
     // No work left; no actors where the works are refused.
     pub(crate) fn new(works: &[u16]) -> Rows
         ensures { RowsMade works.now result.count result.works result.left }
     {
-        let mut row = [0u16; 16];
-        if let Err(_) = Rows::check(works) {
+        if Rows::check(works).is_err() {
             return Rows {
                 count: 0,
-                works: row,
+                works: [0; 16],
                 left: [0; 16],
             };
         }
+        let mut row = [0u16; 16];
         for i in 0..works.len() {
             row[i] = works[i];
         }
@@ -74,20 +70,13 @@ impl Rows {
     pub(crate) fn work(&self, a: u8) -> u16
         ensures { result ≡ slice_index self.now.works a }
     {
-        if a < 16 { self.works[a as usize] } else { 0 }
+        self.works.get(a as usize).copied().unwrap_or(0)
     }
 
     pub(crate) fn left(&self, a: u8) -> u16
         ensures { result ≡ slice_index self.now.left a }
     {
-        if a < 16 { self.left[a as usize] } else { 0 }
-    }
-
-    // Whether an actor is there and has no work left.
-    pub(crate) fn is_idle(&self, a: u8) -> bool
-        ensures { result ≡ (nat_lt a self.now.count && slice_index self.now.left a == 0) }
-    {
-        a < self.count && self.left(a) == 0
+        self.left.get(a as usize).copied().unwrap_or(0)
     }
 
     // One tick for every actor.
@@ -110,15 +99,17 @@ impl Rows {
         self.left[a as usize] -= 1;
     }
 
-    // Gives an actor its work.
-    pub(crate) fn give(&mut self, a: u8)
-        requires { a < self.old.count }
-        ensures number { self.new.count ≡ self.old.count }
-        ensures works { self.new.works ≡ self.old.works }
-        ensures given { slice_index self.new.left a ≡ slice_index self.old.works a }
-        ensures others { (b : ℕ) → (b ≢ a) → slice_index self.new.left b ≡ slice_index self.old.left b }
+    // Gives an actor its work, if it is there and has none left.
+    pub(crate) fn lay(&mut self, a: u8) -> bool
+        ensures value { result ≡ (nat_lt a self.old.count && slice_index self.old.left a == 0) }
+        ensures done { result ≡ true → RowsLaid self.old.count self.old.works self.old.left a self.new.count self.new.works self.new.left }
+        ensures refused { result ≡ false → self.new ≡ self.old }
     {
+        if a >= self.count || self.left(a) > 0 {
+            return false;
+        }
         self.left[a as usize] = self.works[a as usize];
+        true
     }
 
     // Takes away all work left.
