@@ -2,3 +2,4 @@ pub mod Steps
 pub mod Rings
 pub mod Same
 pub mod Windows
+pub mod Writes

@@ -1,10 +1,10 @@
 -- Free and ring have one outcome for each call. Assumes nothing.
-use Rattle.std.specs.Prelude.{◌≡◌, ℕ, zero, suc, ◌-◌, Bool, cond, ltb, List, Some, None, Option, nat_lt, slice_index, slice_index_or, refl}
+use Rattle.std.specs.Prelude.{◌≡◌, ℕ, zero, suc, ◌-◌, Bool, cond, ltb, List, Some, None, Option, nat_lt, length, slice_index, slice_index_or, refl}
 use Rattle.std.proofs.Common.{sym, ap, subst, ◌∙◌, inl, inr}
 use Rattle.std.proofs.lemmas.Bool.{cases_eq}
 use Rattle.policy.specs.declared.rows.Rows.{Rows}
 use Rattle.policy.specs.Round.{after}
-use Rattle.policy.specs.Works.{RowsLaid, RowsCleared}
+use Rattle.policy.specs.Works.{works_of, lefts_of, RowsLaid, RowsCleared}
 use Rattle.policy.specs.Turns.{total, waiting, next, owed, RingMoves}
 use Rattle.policy.specs.declared.free.Free.{Free}
 use Rattle.policy.specs.Like.{RowsLike, RingLike}
@@ -14,17 +14,17 @@ rows_same : (p : Rows) → RowsLike p p
 rows_same p = record { number = refl; works = refl; left = λ a. refl }
 
 module _ (p p' q q' : Rows) (e : RowsLike p q) where
-  laid_like : (a : ℕ) → RowsLaid p.count p.works p.left a p'.count p'.works p'.left → RowsLaid q.count q.works q.left a q'.count q'.works q'.left → RowsLike p' q'
+  laid_like : (a : ℕ) → RowsLaid p.list.items a p'.list.items → RowsLaid q.list.items a q'.list.items → RowsLike p' q'
   laid_like a x y = record {
     number = x.number ∙ e.number ∙ sym y.number;
     works = x.works ∙ e.works ∙ sym y.works;
     left = λ b. elim (cases_eq b a) [
-      | inl same ↦ ap (λ z. slice_index p'.left z) same ∙ x.given ∙ ap (λ ws. slice_index ws a) e.works ∙ sym y.given ∙ ap (λ z. slice_index q'.left z) (sym same)
+      | inl same ↦ ap (λ z. slice_index (lefts_of p'.list.items) z) same ∙ x.given ∙ ap (λ ws. slice_index ws a) e.works ∙ sym y.given ∙ ap (λ z. slice_index (lefts_of q'.list.items) z) (sym same)
       | inr other ↦ x.others b other ∙ e.left b ∙ sym (y.others b other)
     ];
   }
 
-  cleared_like : RowsCleared p.count p.works p'.count p'.works p'.left → RowsCleared q.count q.works q'.count q'.works q'.left → RowsLike p' q'
+  cleared_like : RowsCleared p.list.items p'.list.items → RowsCleared q.list.items q'.list.items → RowsLike p' q'
   cleared_like x y = record {
     number = x.number ∙ e.number ∙ sym y.number;
     works = x.works ∙ e.works ∙ sym y.works;
@@ -82,25 +82,27 @@ ring_exact = record {
   same = λ p. record { rows = rows_same p.rows; turn = refl; busy = refl };
   number = λ p q e. e.rows.number;
   work = λ p q e a. ap (λ ws. slice_index ws a) e.rows.works;
-  promise = λ p q e a. ap (λ n. cond (nat_lt a n) (total p.rows.works n) 0) e.rows.number ∙ ap (λ ws. cond (nat_lt a q.rows.count) (total ws q.rows.count) 0) e.rows.works;
+  promise = λ p q e a. ap (λ n. cond (nat_lt a n) (total (works_of p.rows.list.items) n) 0) e.rows.number ∙ ap (λ ws. cond (nat_lt a (length q.rows.list.items)) (total ws (length q.rows.list.items)) 0) e.rows.works;
   left = λ p q e. e.rows.left;
   due = λ p q e a.
-      owed_like p.rows.count p.rows.left q.rows.left e.rows.left p.rows.works p.turn p.busy a
-      ∙ ap (λ n. owed n p.rows.works q.rows.left p.turn p.busy a) e.rows.number
-      ∙ ap (λ ws. owed q.rows.count ws q.rows.left p.turn p.busy a) e.rows.works
-      ∙ ap (λ t. owed q.rows.count q.rows.works q.rows.left t p.busy a) e.turn
-      ∙ ap (λ b. owed q.rows.count q.rows.works q.rows.left q.turn b a) e.busy;
+      let rs = p.rows.list.items in
+      let ms = q.rows.list.items in
+      owed_like (length rs) (lefts_of rs) (lefts_of ms) e.rows.left (works_of rs) p.turn p.busy a
+      ∙ ap (λ n. owed n (works_of rs) (lefts_of ms) p.turn p.busy a) e.rows.number
+      ∙ ap (λ ws. owed (length ms) ws (lefts_of ms) p.turn p.busy a) e.rows.works
+      ∙ ap (λ t. owed (length ms) (works_of ms) (lefts_of ms) t p.busy a) e.turn
+      ∙ ap (λ b. owed (length ms) (works_of ms) (lefts_of ms) q.turn b a) e.busy;
   ticks = λ p p' q q' e x y.
-      let n = p.rows.count in
-      let l = p.rows.left in
-      let m = q.rows.left in
-      let chosen : next q.rows.count m q.turn q.busy ≡ next n l p.turn p.busy =
-      sym (next_like n l m e.rows.left p.turn p.busy ∙ ap (λ k. next k m p.turn p.busy) e.rows.number ∙ ap (λ t. next q.rows.count m t p.busy) e.turn
-      ∙ ap (λ b. next q.rows.count m q.turn b) e.busy) in
-      let there = subst (λ (b : Bool). RingMoves (next n l p.turn p.busy) m p.turn b q'.rows.left q'.turn q'.busy) (sym e.busy)
-      (subst (λ (t : ℕ). RingMoves (next n l p.turn p.busy) m t q.busy q'.rows.left q'.turn q'.busy) (sym e.turn)
-      (subst (λ (o : Option ℕ). RingMoves o m q.turn q.busy q'.rows.left q'.turn q'.busy) chosen y.moves)) in
-      let w = moves_like n l m e.rows.left (next n l p.turn p.busy) p.turn p.busy p'.rows.left q'.rows.left p'.turn q'.turn p'.busy q'.busy x.moves there in
+      let n = (length p.rows.list.items) in
+      let l = (lefts_of p.rows.list.items) in
+      let m = (lefts_of q.rows.list.items) in
+      let chosen : next (length q.rows.list.items) m q.turn q.busy ≡ next n l p.turn p.busy =
+      sym (next_like n l m e.rows.left p.turn p.busy ∙ ap (λ k. next k m p.turn p.busy) e.rows.number ∙ ap (λ t. next (length q.rows.list.items) m t p.busy) e.turn
+      ∙ ap (λ b. next (length q.rows.list.items) m q.turn b) e.busy) in
+      let there = subst (λ (b : Bool). RingMoves (next n l p.turn p.busy) m p.turn b (lefts_of q'.rows.list.items) q'.turn q'.busy) (sym e.busy)
+      (subst (λ (t : ℕ). RingMoves (next n l p.turn p.busy) m t q.busy (lefts_of q'.rows.list.items) q'.turn q'.busy) (sym e.turn)
+      (subst (λ (o : Option ℕ). RingMoves o m q.turn q.busy (lefts_of q'.rows.list.items) q'.turn q'.busy) chosen y.moves)) in
+      let w = moves_like n l m e.rows.left (next n l p.turn p.busy) p.turn p.busy (lefts_of p'.rows.list.items) (lefts_of q'.rows.list.items) p'.turn q'.turn p'.busy q'.busy x.moves there in
       record {
         rows = record { number = x.number ∙ e.rows.number ∙ sym y.number; works = x.works ∙ e.rows.works ∙ sym y.works; left = w.0 };
         turn = w.1;

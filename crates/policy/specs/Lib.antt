@@ -20,3 +20,4 @@ pub mod Rounds
 pub mod Dues
 pub mod Sums
 pub mod Overs
+pub mod Rings

@@ -1,16 +1,17 @@
 -- When two policies are alike, so that nothing tells them apart.
-use Rattle.std.specs.Prelude.{◌≡◌, ℕ, slice_index}
+use Rattle.std.specs.Prelude.{◌≡◌, ℕ, length, slice_index}
 use Rattle.policy.specs.declared.meaning.Policy.{Ghosts}
 use Rattle.policy.specs.declared.rows.Rows.{Rows}
+use Rattle.policy.specs.Works.{works_of, lefts_of}
 use Rattle.policy.specs.declared.ring.Ring.{Ring}
 use Rattle.policy.specs.declared.slice.Slice.{Slice}
 use Rattle.policy.specs.declared.pair.Pair.{Pair}
 
 -- the same actors, works and lefts
 pub record RowsLike (p q : Rows) : Type 0 where
-  pub number : p.count ≡ q.count
-  pub works : p.works ≡ q.works
-  pub left : (a : ℕ) → slice_index p.left a ≡ slice_index q.left a
+  pub number : length p.list.items ≡ length q.list.items
+  pub works : works_of p.list.items ≡ works_of q.list.items
+  pub left : (a : ℕ) → slice_index (lefts_of p.list.items) a ≡ slice_index (lefts_of q.list.items) a
 
 -- and the same turn
 pub record RingLike (p q : Ring) : Type 0 where

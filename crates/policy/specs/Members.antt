@@ -1,11 +1,11 @@
 -- The members that the four give to the trait, and what it is to have one outcome. Assumes nothing.
-use Rattle.std.specs.Prelude.{◌≡◌, ℕ, false, nat_le}
+use Rattle.std.specs.Prelude.{◌≡◌, ℕ, length, false, nat_le}
 use Rattle.policy.specs.declared.meaning.Policy.{Ghosts}
 use Rattle.policy.specs.declared.free.Free.{Free}
 use Rattle.policy.specs.declared.ring.Ring.{Ring}
 use Rattle.policy.specs.declared.slice.Slice.{Slice}
 use Rattle.policy.specs.declared.pair.Pair.{Pair}
-use Rattle.policy.specs.Works.{freed, FreeTicks, RowsLaid, RowsCleared}
+use Rattle.policy.specs.Works.{works_of, lefts_of, freed, FreeTicks, RowsLaid, RowsCleared}
 use Rattle.policy.specs.Turns.{ringed, RingTicks}
 use Rattle.policy.specs.Wheel.{wide}
 use Rattle.policy.specs.Slices.{sliced, SliceTicks, SliceLays, SliceKeeps}
@@ -24,18 +24,18 @@ pub record Exact {X : Type 0} (m : Ghosts X) (like : X → X → Type 0) : Type 
 
 abbrev pub free : Ghosts Free
 free = record {
-  view = λ p. freed p.rows.count p.rows.works p.rows.left;
-  ticks = λ p q. FreeTicks p.rows.count p.rows.works p.rows.left q.rows.count q.rows.works q.rows.left;
-  lays = λ p a q. RowsLaid p.rows.count p.rows.works p.rows.left a q.rows.count q.rows.works q.rows.left;
-  clears = λ p q. RowsCleared p.rows.count p.rows.works q.rows.count q.rows.works q.rows.left;
+  view = λ p. freed p.rows.list.items;
+  ticks = λ p q. FreeTicks p.rows.list.items q.rows.list.items;
+  lays = λ p a q. RowsLaid p.rows.list.items a q.rows.list.items;
+  clears = λ p q. RowsCleared p.rows.list.items q.rows.list.items;
 }
 
 abbrev pub ring : Ghosts Ring
 ring = record {
-  view = λ p. ringed p.rows.count p.rows.works p.rows.left p.turn p.busy;
-  ticks = λ p q. RingTicks p.rows.count p.rows.works p.rows.left p.turn p.busy q.rows.count q.rows.works q.rows.left q.turn q.busy;
-  lays = λ p a q. RowsLaid p.rows.count p.rows.works p.rows.left a q.rows.count q.rows.works q.rows.left × (q.turn ≡ p.turn) × (q.busy ≡ p.busy);
-  clears = λ p q. RowsCleared p.rows.count p.rows.works q.rows.count q.rows.works q.rows.left × (q.turn ≡ p.turn) × (q.busy ≡ false);
+  view = λ p. ringed (length p.rows.list.items) (works_of p.rows.list.items) (lefts_of p.rows.list.items) p.turn p.busy;
+  ticks = λ p q. RingTicks (length p.rows.list.items) (works_of p.rows.list.items) (lefts_of p.rows.list.items) p.turn p.busy (length q.rows.list.items) (works_of q.rows.list.items) (lefts_of q.rows.list.items) q.turn q.busy;
+  lays = λ p a q. RowsLaid p.rows.list.items a q.rows.list.items × (q.turn ≡ p.turn) × (q.busy ≡ p.busy);
+  clears = λ p q. RowsCleared p.rows.list.items q.rows.list.items × (q.turn ≡ p.turn) × (q.busy ≡ false);
 }
 
 abbrev pub slice : {X : Type 0} (m : Ghosts X) → Ghosts (Slice X m)

@@ -38,13 +38,13 @@ outcomes m like same shown ticks lays clears = record {
 }
 
 -- like ones show the same
-pub shows : {X : Type 0} (m : Ghosts X) (like : X → X → Type 0) → Exact m like → (p q : X) → like p q → Alike (m.view q) (m.view p)
-shows m like k p q e = record {
+pub shows : {X : Type 0} {m : Ghosts X} {like : X → X → Type 0} → Exact m like → (p q : X) → like p q → Alike (m.view q) (m.view p)
+shows k p q e = record {
   number = k.number p q e;
   each = λ a. record { work = k.work p q e a; promise = k.promise p q e a; left = k.left p q e a; due = k.due p q e a };
 }
 
-module _ {X : Type 0} (m : Ghosts X) (like : X → X → Type 0) (k : Exact m like) where
+module _ {X : Type 0} {m : Ghosts X} {like : X → X → Type 0} (k : Exact m like) where
   -- where nothing is done below, like ones stay like
   both_stay : (x x' y y' : X) → like x y → x' ≡ x → y' ≡ y → like x' y'
   both_stay x x' y y' e f g = subst (λ (z : X). like z y') (sym f) (subst (like x) (sym g) e)
@@ -97,10 +97,10 @@ seen_like : (s t : Side) (f g h i : ℕ → ℕ) → s ≡ t → ((a : ℕ) → 
 seen_like (First b) t f g h i e x y = x b ∙ ap (λ (d : Side). seen d h i) e
 seen_like (Second b) t f g h i e x y = y b ∙ ap (λ (d : Side). seen d h i) e
 
-module _ {X Y : Type 0} (m : Ghosts X) (n : Ghosts Y) (f : X → X → Type 0) (g : Y → Y → Type 0) (k : Exact m f) (l : Exact n g) where
+module _ {X Y : Type 0} {m : Ghosts X} {n : Ghosts Y} {f : X → X → Type 0} {g : Y → Y → Type 0} (k : Exact m f) (l : Exact n g) where
   sides_lay : (s : Side) (x x' u u' : X) (y y' v v' : Y) → f x u → g y v → PairLays m.lays n.lays s x y x' y' → PairLays m.lays n.lays s u v u' v' → f x' u' × g y' v'
-  sides_lay (First b) x x' u u' y y' v v' e d r t = (k.lays x x' u u' b e r.0 t.0, both_stay n g l y y' v v' d r.1 t.1)
-  sides_lay (Second b) x x' u u' y y' v v' e d r t = (both_stay m f k x x' u u' e r.0 t.0, l.lays y y' v v' b d r.1 t.1)
+  sides_lay (First b) x x' u u' y y' v v' e d r t = (k.lays x x' u u' b e r.0 t.0, both_stay l y y' v v' d r.1 t.1)
+  sides_lay (Second b) x x' u u' y y' v v' e d r t = (both_stay k x x' u u' e r.0 t.0, l.lays y y' v v' b d r.1 t.1)
 
   -- the same side has an actor of like pairs
   here : (x u : X) (y v : Y) (a : ℕ) → f x u → g y v → side (m.view x).number (n.view y).number a ≡ side (m.view u).number (n.view v).number a

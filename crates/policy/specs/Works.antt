@@ -2,12 +2,17 @@
 --     Workable ws               1 to 16 works of 1 to 4,095
 --     OutsideAt ws a            a is the lowest actor whose work is outside the limits
 --     WorksChecked ws r         what the check answers
---     RowsMade ws n us left     the n actors, their works us and lefts that are made for some works
---     freed n us left           what free shows
---     FreeTicks .. ..           one tick of free
---     RowsLaid .. a ..          a lay that was done, of free and ring
---     RowsCleared .. ..         a clear
-use Rattle.std.specs.Prelude.{◌≡◌, ℕ, ◌-◌, ◌<◌, ◌≤◌, ◌⊎◌, List, length, Ok, Err, Result, ◌≢◌, slice_index, slice_index_or}
+--     works_of rs, lefts_of rs  the works of rows, and what is left of each
+--     Fit r                     what a row keeps
+--     fresh w                   a row with no work left
+--     worn r, emptied r         a row after a tick of its own, and with no work left
+--     RowsMade ws rs            the rows that are made for some works
+--     freed rs                  what free shows
+--     FreeTicks rs rs'          one tick of free
+--     RowsLaid rs a rs'         a lay that was done, of free and ring
+--     RowsCleared rs rs'        a clear
+use Rattle.std.specs.Prelude.{◌≡◌, ℕ, ◌-◌, ◌<◌, ◌≤◌, ◌⊎◌, List, map, length, Ok, Err, Result, ◌≢◌, slice_index}
+use Rattle.policy.specs.declared.rows.Row.{Row}
 use Rattle.policy.specs.declared.fault.Fault.{Fault}
 use Rattle.policy.specs.declared.fault.Fault.TheVariants.{Crowd, Limits, Promise}
 use Rattle.policy.specs.Meaning.{View}
@@ -33,39 +38,59 @@ WorksChecked ws (Err Crowd) = ⊥
 WorksChecked ws (Err (Limits a)) = ((a ≡ 0) × (0 < length ws → 16 < length ws)) ⊎ OutsideAt ws a
 WorksChecked ws (Err (Promise _)) = ⊥
 
--- no actors where the works are refused
-pub record RowsMade (ws : List ℕ) (n : ℕ) (us left : List ℕ) : Type 0 where
-  pub number : Workable ws → n ≡ length ws
-  pub works : Workable ws → (a : ℕ) → slice_index us a ≡ slice_index ws a
-  pub refused : (Workable ws → ⊥) → n ≡ 0
-  pub idle : (a : ℕ) → slice_index left a ≡ 0
+abbrev pub works_of : List Row → List ℕ
+works_of rs = map (λ r. r.work) rs
 
-abbrev pub freed : ℕ → List ℕ → List ℕ → View
-freed n us left = record {
-  number = n;
-  work = λ a. slice_index us a;
-  promise = λ a. slice_index us a;
-  left = λ a. slice_index left a;
-  due = λ a. slice_index left a;
+abbrev pub lefts_of : List Row → List ℕ
+lefts_of rs = map (λ r. r.left) rs
+
+pub record Fit (r : Row) : Type 0 where
+  pub least : 0 < r.work
+  pub most : r.work ≤ 4095
+  pub under : r.left ≤ r.work
+
+abbrev pub fresh : ℕ → Row
+fresh w = record { work = w; left = 0 }
+
+abbrev pub worn : Row → Row
+worn r = record r { left = r.left - 1 }
+
+abbrev pub emptied : Row → Row
+emptied r = record r { left = 0 }
+
+-- no actors where the works are refused
+pub record RowsMade (ws : List ℕ) (rs : List Row) : Type 0 where
+  pub number : Workable ws → length rs ≡ length ws
+  pub works : Workable ws → (a : ℕ) → slice_index (works_of rs) a ≡ slice_index ws a
+  pub refused : (Workable ws → ⊥) → length rs ≡ 0
+  pub idle : (a : ℕ) → slice_index (lefts_of rs) a ≡ 0
+
+abbrev pub freed : List Row → View
+freed rs = record {
+  number = length rs;
+  work = λ a. slice_index (works_of rs) a;
+  promise = λ a. slice_index (works_of rs) a;
+  left = λ a. slice_index (lefts_of rs) a;
+  due = λ a. slice_index (lefts_of rs) a;
 }
 
 -- every left falls by one
-pub record FreeTicks (n : ℕ) (us left : List ℕ) (n' : ℕ) (us' left' : List ℕ) : Type 0 where
-  pub number : n' ≡ n
-  pub works : us' ≡ us
-  pub served : (a : ℕ) → slice_index left' a ≡ slice_index left a - 1
+pub record FreeTicks (rs rs' : List Row) : Type 0 where
+  pub number : length rs' ≡ length rs
+  pub works : works_of rs' ≡ works_of rs
+  pub served : (a : ℕ) → slice_index (lefts_of rs') a ≡ slice_index (lefts_of rs) a - 1
 
 -- one actor is given its work
-pub record RowsLaid (n : ℕ) (us left : List ℕ) (a : ℕ) (n' : ℕ) (us' left' : List ℕ) : Type 0 where
-  pub number : n' ≡ n
-  pub works : us' ≡ us
-  pub present : a < n
-  pub idle : slice_index_or left a 0 ≡ 0
-  pub given : slice_index_or left' a 0 ≡ slice_index us a
-  pub others : (b : ℕ) → (b ≢ a) → slice_index left' b ≡ slice_index left b
+pub record RowsLaid (rs : List Row) (a : ℕ) (rs' : List Row) : Type 0 where
+  pub number : length rs' ≡ length rs
+  pub works : works_of rs' ≡ works_of rs
+  pub present : a < length rs
+  pub idle : slice_index (lefts_of rs) a ≡ 0
+  pub given : slice_index (lefts_of rs') a ≡ slice_index (works_of rs) a
+  pub others : (b : ℕ) → (b ≢ a) → slice_index (lefts_of rs') b ≡ slice_index (lefts_of rs) b
 
 -- every left is 0
-pub record RowsCleared (n : ℕ) (us : List ℕ) (n' : ℕ) (us' left' : List ℕ) : Type 0 where
-  pub number : n' ≡ n
-  pub works : us' ≡ us
-  pub none : (a : ℕ) → slice_index left' a ≡ 0
+pub record RowsCleared (rs rs' : List Row) : Type 0 where
+  pub number : length rs' ≡ length rs
+  pub works : works_of rs' ≡ works_of rs
+  pub none : (a : ℕ) → slice_index (lefts_of rs') a ≡ 0

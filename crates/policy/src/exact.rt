@@ -2,8 +2,8 @@ ghost use Rattle.policy.specs.Meaning.{Alike};
 ghost use Rattle.policy.specs.Like.{RowsLike, RingLike, SliceLike, PairLike};
 ghost use Rattle.std.specs.Prelude.{ℕ, refl};
 ghost use Rattle.policy.specs.Exacts.{free_exact, ring_exact};
-ghost use Rattle.policy.specs.Members.{free, ring, slice, pair};
-ghost use Rattle.policy.specs.Overs.{outcomes, shows, slice_exact, pair_exact};
+ghost use Rattle.policy.specs.Members.{Exact as Outcomes};
+ghost use Rattle.policy.specs.Overs.{outcomes as one_outcome, shows, slice_exact, pair_exact};
 
 use crate::free::Free;
 use crate::meaning::Policy;
@@ -24,6 +24,9 @@ pub trait Exact: Policy {
     ghost laying: { (p p' q q' : Self) (a : ℕ) → like p q → Self.Policy.lays p a p' → Self.Policy.lays q a q' → like p' q' };
 
     ghost clearing: { (p p' q q' : Self) → like p q → Self.Policy.clears p p' → Self.Policy.clears q q' → like p' q' };
+
+    // All of it together, as a policy over this one takes it.
+    ghost outcomes: { Outcomes Self.Policy.own like } = { one_outcome Self.Policy.own like same shown ticking laying clearing };
 }
 
 impl Exact for Free {
@@ -31,7 +34,7 @@ impl Exact for Free {
 
     ghost same = { free_exact.same };
 
-    ghost shown = { shows free (λ p q. RowsLike p.rows q.rows) free_exact };
+    ghost shown = { shows free_exact };
 
     ghost ticking = { free_exact.ticks };
 
@@ -45,7 +48,7 @@ impl Exact for Ring {
 
     ghost same = { ring_exact.same };
 
-    ghost shown = { shows ring RingLike ring_exact };
+    ghost shown = { shows ring_exact };
 
     ghost ticking = { ring_exact.ticks };
 
@@ -59,13 +62,13 @@ impl<P: Exact> Exact for Slice<P> {
 
     ghost same = { λ p. record { below = P.Exact.same p.below; period = refl; slots = refl; wheel = refl } };
 
-    ghost shown = { shows (slice P.Policy.own) (SliceLike P.Exact.like) (slice_exact P.Policy.own P.Exact.like (outcomes P.Policy.own P.Exact.like P.Exact.same P.Exact.shown P.Exact.ticking P.Exact.laying P.Exact.clearing)) };
+    ghost shown = { shows (slice_exact P.Exact.outcomes) };
 
-    ghost ticking = { (slice_exact P.Policy.own P.Exact.like (outcomes P.Policy.own P.Exact.like P.Exact.same P.Exact.shown P.Exact.ticking P.Exact.laying P.Exact.clearing)).ticks };
+    ghost ticking = { (slice_exact P.Exact.outcomes).ticks };
 
-    ghost laying = { (slice_exact P.Policy.own P.Exact.like (outcomes P.Policy.own P.Exact.like P.Exact.same P.Exact.shown P.Exact.ticking P.Exact.laying P.Exact.clearing)).lays };
+    ghost laying = { (slice_exact P.Exact.outcomes).lays };
 
-    ghost clearing = { (slice_exact P.Policy.own P.Exact.like (outcomes P.Policy.own P.Exact.like P.Exact.same P.Exact.shown P.Exact.ticking P.Exact.laying P.Exact.clearing)).clears };
+    ghost clearing = { (slice_exact P.Exact.outcomes).clears };
 }
 
 impl<A: Exact, B: Exact> Exact for Pair<A, B> {
@@ -73,11 +76,11 @@ impl<A: Exact, B: Exact> Exact for Pair<A, B> {
 
     ghost same = { λ p. record { first = A.Exact.same p.first; second = B.Exact.same p.second } };
 
-    ghost shown = { shows (pair A.Policy.own B.Policy.own) (PairLike A.Exact.like B.Exact.like) (pair_exact A.Policy.own B.Policy.own A.Exact.like B.Exact.like (outcomes A.Policy.own A.Exact.like A.Exact.same A.Exact.shown A.Exact.ticking A.Exact.laying A.Exact.clearing) (outcomes B.Policy.own B.Exact.like B.Exact.same B.Exact.shown B.Exact.ticking B.Exact.laying B.Exact.clearing)) };
+    ghost shown = { shows (pair_exact A.Exact.outcomes B.Exact.outcomes) };
 
-    ghost ticking = { (pair_exact A.Policy.own B.Policy.own A.Exact.like B.Exact.like (outcomes A.Policy.own A.Exact.like A.Exact.same A.Exact.shown A.Exact.ticking A.Exact.laying A.Exact.clearing) (outcomes B.Policy.own B.Exact.like B.Exact.same B.Exact.shown B.Exact.ticking B.Exact.laying B.Exact.clearing)).ticks };
+    ghost ticking = { (pair_exact A.Exact.outcomes B.Exact.outcomes).ticks };
 
-    ghost laying = { (pair_exact A.Policy.own B.Policy.own A.Exact.like B.Exact.like (outcomes A.Policy.own A.Exact.like A.Exact.same A.Exact.shown A.Exact.ticking A.Exact.laying A.Exact.clearing) (outcomes B.Policy.own B.Exact.like B.Exact.same B.Exact.shown B.Exact.ticking B.Exact.laying B.Exact.clearing)).lays };
+    ghost laying = { (pair_exact A.Exact.outcomes B.Exact.outcomes).lays };
 
-    ghost clearing = { (pair_exact A.Policy.own B.Policy.own A.Exact.like B.Exact.like (outcomes A.Policy.own A.Exact.like A.Exact.same A.Exact.shown A.Exact.ticking A.Exact.laying A.Exact.clearing) (outcomes B.Policy.own B.Exact.like B.Exact.same B.Exact.shown B.Exact.ticking B.Exact.laying B.Exact.clearing)).clears };
+    ghost clearing = { (pair_exact A.Exact.outcomes B.Exact.outcomes).clears };
 }

@@ -1,6 +1,7 @@
 ghost use Rattle.std.specs.Prelude.{◌≡◌, ℕ, ◌+◌, ◌-◌, ◌<◌, ◌≤◌, true, false};
 ghost use Rattle.policy.specs.Meaning.{View, Sound, Served, Cleared, Laid, layable};
 ghost use Rattle.policy.specs.Works.{WorksChecked, RowsMade, RowsLaid, RowsCleared, freed, FreeTicks};
+ghost use Rattle.policy.specs.Rings.{free_sound};
 ghost use Rattle.std.proofs.Common.{rules};
 
 use crate::fault::Fault;
@@ -23,7 +24,7 @@ impl Free {
 
     // One actor for each work, or no actors where the check refuses.
     pub fn new(works: &[u16]) -> Free
-        ensures { RowsMade works.now result.rows.count result.rows.works result.rows.left }
+        ensures { RowsMade works.now result.rows.list.items }
     {
         Free {
             rows: Rows::new(works),
@@ -32,15 +33,15 @@ impl Free {
 }
 
 impl Policy for Free {
-    ghost view = { λ p. freed p.rows.count p.rows.works p.rows.left };
+    ghost view = { λ p. freed p.rows.list.items };
 
-    ghost ticks = { λ p q. FreeTicks p.rows.count p.rows.works p.rows.left q.rows.count q.rows.works q.rows.left };
+    ghost ticks = { λ p q. FreeTicks p.rows.list.items q.rows.list.items };
 
-    ghost lays = { λ p a q. RowsLaid p.rows.count p.rows.works p.rows.left a q.rows.count q.rows.works q.rows.left };
+    ghost lays = { λ p a q. RowsLaid p.rows.list.items a q.rows.list.items };
 
-    ghost clears = { λ p q. RowsCleared p.rows.count p.rows.works q.rows.count q.rows.works q.rows.left };
+    ghost clears = { λ p q. RowsCleared p.rows.list.items q.rows.list.items };
 
-    ghost sound = { Prim.search rules };
+    ghost sound = { λ p. free_sound p.rows };
 
     ghost ticked = { Prim.search rules };
 
@@ -77,10 +78,6 @@ impl Policy for Free {
     }
 
     fn lay(&mut self, a: u8) -> bool {
-        if !self.rows.is_idle(a) {
-            return false;
-        }
-        self.rows.give(a);
-        true
+        self.rows.lay(a)
     }
 }

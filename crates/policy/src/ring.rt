@@ -1,8 +1,8 @@
-ghost use Rattle.std.specs.Prelude.{◌≡◌, ℕ, ◌+◌, ◌-◌, ◌<◌, ◌≤◌, true, false, slice_index};
+ghost use Rattle.std.specs.Prelude.{◌≡◌, ℕ, ◌+◌, ◌-◌, ◌<◌, ◌≤◌, true, false, length, slice_index};
 ghost use Rattle.policy.specs.Meaning.{View, Sound, Served, Cleared, Laid, layable};
-ghost use Rattle.policy.specs.Works.{WorksChecked, RowsMade, RowsLaid, RowsCleared};
+ghost use Rattle.policy.specs.Works.{WorksChecked, RowsMade, RowsLaid, RowsCleared, works_of, lefts_of};
 ghost use Rattle.policy.specs.Turns.{total, next, round, ringed, RingTicks};
-ghost use Rattle.policy.specs.Rounds.{ringed_sound, ringed_ticks};
+ghost use Rattle.policy.specs.Rings.{ring_sound, ring_ticks};
 ghost use Rattle.std.proofs.Common.{rules};
 
 use crate::fault::Fault;
@@ -17,8 +17,8 @@ pub struct Ring {
     // Whose turn it is, or was last.
     turn: u8,
     busy: bool,
-    ghost on: { 0 < rows.count → turn < rows.count },
-    ghost going: { busy ≡ true → 0 < slice_index rows.left turn },
+    ghost on: { 0 < length rows.list.items → turn < length rows.list.items },
+    ghost going: { busy ≡ true → 0 < slice_index (lefts_of rows.list.items) turn },
 }
 
 impl Ring {
@@ -31,8 +31,8 @@ impl Ring {
 
     // One actor for each work, the last one's turn just over; no actors where the check refuses.
     pub fn new(works: &[u16]) -> Ring
-        ensures made { RowsMade works.now result.rows.count result.rows.works result.rows.left }
-        ensures turn { (result.turn ≡ result.rows.count - 1) × (result.busy ≡ false) }
+        ensures made { RowsMade works.now result.rows.list.items }
+        ensures turn { (result.turn ≡ length result.rows.list.items - 1) × (result.busy ≡ false) }
     {
         let rows = Rows::new(works);
         let turn = rows.number().saturating_sub(1);
@@ -45,7 +45,7 @@ impl Ring {
 
     // Who is served at the next tick.
     fn next(&self) -> Option<u8>
-        ensures { result ≡ next self.now.rows.count self.now.rows.left self.now.turn self.now.busy }
+        ensures { result ≡ next (length self.now.rows.list.items) (lefts_of self.now.rows.list.items) self.now.turn self.now.busy }
     {
         if self.busy {
             return Some(self.turn);
@@ -63,7 +63,7 @@ impl Ring {
 
     // The works of all actors together.
     fn total(&self) -> u16
-        ensures { result ≡ total self.now.rows.works self.now.rows.count }
+        ensures { result ≡ total (works_of self.now.rows.list.items) (length self.now.rows.list.items) }
     {
         let mut sum = 0;
         for a in 0..self.rows.number() {
@@ -74,7 +74,7 @@ impl Ring {
 
     // The works after the turn's actor, going round to and including another's.
     fn round(&self, b: u8) -> u16
-        ensures { result ≡ round self.now.rows.works self.now.rows.count self.now.turn b }
+        ensures { result ≡ round (works_of self.now.rows.list.items) (length self.now.rows.list.items) self.now.turn b }
     {
         let n = self.rows.number();
         let mut at = self.turn;
@@ -91,17 +91,17 @@ impl Ring {
 }
 
 impl Policy for Ring {
-    ghost view = { λ p. ringed p.rows.count p.rows.works p.rows.left p.turn p.busy };
+    ghost view = { λ p. ringed (length p.rows.list.items) (works_of p.rows.list.items) (lefts_of p.rows.list.items) p.turn p.busy };
 
-    ghost ticks = { λ p q. RingTicks p.rows.count p.rows.works p.rows.left p.turn p.busy q.rows.count q.rows.works q.rows.left q.turn q.busy };
+    ghost ticks = { λ p q. RingTicks (length p.rows.list.items) (works_of p.rows.list.items) (lefts_of p.rows.list.items) p.turn p.busy (length q.rows.list.items) (works_of q.rows.list.items) (lefts_of q.rows.list.items) q.turn q.busy };
 
-    ghost lays = { λ p a q. RowsLaid p.rows.count p.rows.works p.rows.left a q.rows.count q.rows.works q.rows.left × (q.turn ≡ p.turn) × (q.busy ≡ p.busy) };
+    ghost lays = { λ p a q. RowsLaid p.rows.list.items a q.rows.list.items × (q.turn ≡ p.turn) × (q.busy ≡ p.busy) };
 
-    ghost clears = { λ p q. RowsCleared p.rows.count p.rows.works q.rows.count q.rows.works q.rows.left × (q.turn ≡ p.turn) × (q.busy ≡ false) };
+    ghost clears = { λ p q. RowsCleared p.rows.list.items q.rows.list.items × (q.turn ≡ p.turn) × (q.busy ≡ false) };
 
-    ghost sound = { λ p. ringed_sound p.rows.count p.rows.works p.rows.left p.turn p.busy (record { few = p.rows.few; most = p.rows.most; past = p.rows.past; under = p.rows.under; on = p.on; going = p.going }) };
+    ghost sound = { λ p. ring_sound p.rows p.turn p.busy p.on p.going };
 
-    ghost ticked = { λ p q. ringed_ticks p.rows.count p.rows.works p.rows.left p.turn p.busy (record { few = p.rows.few; most = p.rows.most; past = p.rows.past; under = p.rows.under; on = p.on; going = p.going }) q.rows.count q.rows.works q.rows.left q.turn q.busy };
+    ghost ticked = { λ p q. ring_ticks p.rows p.turn p.busy p.on p.going q.rows q.turn q.busy };
 
     ghost laid = { Prim.search rules };
 
@@ -155,10 +155,6 @@ impl Policy for Ring {
     }
 
     fn lay(&mut self, a: u8) -> bool {
-        if !self.rows.is_idle(a) {
-            return false;
-        }
-        self.rows.give(a);
-        true
+        self.rows.lay(a)
     }
 }

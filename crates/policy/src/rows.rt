@@ -1,29 +1,40 @@
-ghost use Rattle.std.specs.Prelude.{◌≡◌, ℕ, ◌+◌, ◌-◌, ◌<◌, ◌≤◌, true, false, ◌&&◌, length, ◌==◌, ◌≢◌, nat_lt, slice_index};
-ghost use Rattle.policy.specs.Works.{WorksChecked, RowsMade};
+ghost use Rattle.std.specs.Prelude.{◌≡◌, ℕ, ◌+◌, ◌-◌, ◌<◌, ◌≤◌, true, false, ◌&&◌, map, length, ◌==◌, ◌≢◌, nat_lt, slice_index};
+ghost use Rattle.std.specs.List.{All};
+ghost use Rattle.policy.specs.Works.{WorksChecked, RowsMade, RowsLaid, RowsCleared, FreeTicks, Fit, worn, emptied, works_of, lefts_of};
 
 use crate::fault::Fault;
+use arrayvec::ArrayVec;
 
-// The works of up to 16 actors, and what is left of each.
-#[derive(Drop)]
-pub struct Rows {
-    count: u8,
-    works: [u16; 16],
-    left: [u16; 16],
-    ghost few: { count ≤ 16 },
-    ghost least: { (a : ℕ) → a < count → 0 < slice_index works a },
-    ghost most: { (a : ℕ) → slice_index works a ≤ 4095 },
-    ghost past: { (a : ℕ) → count ≤ a → slice_index works a ≡ 0 },
-    ghost under: { (a : ℕ) → slice_index left a ≤ slice_index works a },
+// An actor's work, and what is left of it.
+#[derive(Clone, Copy, Default)]
+pub struct Row {
+    work: u16,
+    left: u16,
 }
 
-// Takes one from each that is above 0.
-fn wear(left: &mut [u16])
-    ensures { (a : ℕ) → slice_index left.new a ≡ slice_index left.old a - 1 }
+// The rows of up to 16 actors.
+#[derive(Drop)]
+pub struct Rows {
+    list: ArrayVec<Row, 16>,
+    ghost few: { length list.items ≤ 16 },
+    ghost fit: { All Fit list.items },
+}
+
+// One tick for every actor.
+fn serve(rows: &mut [Row])
+    ensures { rows.new ≡ map worn rows.old }
 {
-    for x in left.iter_mut() {
-        if *x > 0 {
-            *x -= 1;
-        }
+    for row in rows.iter_mut() {
+        row.left = row.left.saturating_sub(1);
+    }
+}
+
+// Takes away all work left.
+fn clear(rows: &mut [Row])
+    ensures { rows.new ≡ map emptied rows.old }
+{
+    for row in rows.iter_mut() {
+        row.left = 0;
     }
 }
 
@@ -32,101 +43,84 @@ impl Rows {
     pub(crate) fn check(works: &[u16]) -> Result<(), Fault>
         ensures { WorksChecked works.now result }
     {
-        if works.len() == 0 || works.len() > 16 {
+        if works.is_empty() || works.len() > 16 {
             return Err(Fault::Limits(0));
         }
-        for i in 0..works.len() {
-            if works[i] == 0 || works[i] > 4095 {
-                return Err(Fault::Limits(i as u8));
-            }
+        match works.iter().position(|work| !(1..=4095).contains(work)) {
+            Some(actor) => Err(Fault::Limits(actor as u8)),
+            None => Ok(()),
         }
-        Ok(())
     }
 
     // No work left; no actors where the works are refused.
     pub(crate) fn new(works: &[u16]) -> Rows
-        ensures { RowsMade works.now result.count result.works result.left }
+        ensures { RowsMade works.now result.list.items }
     {
-        let mut row = [0u16; 16];
-        if let Err(_) = Rows::check(works) {
-            return Rows {
-                count: 0,
-                works: row,
-                left: [0; 16],
-            };
+        let mut list = ArrayVec::new();
+        if Rows::check(works).is_err() {
+            return Rows { list };
         }
-        for i in 0..works.len() {
-            row[i] = works[i];
+        for &work in works {
+            list.push(Row { work, left: 0 });
         }
-        Rows {
-            count: works.len() as u8,
-            works: row,
-            left: [0; 16],
-        }
+        Rows { list }
     }
 
     pub(crate) fn number(&self) -> u8
-        ensures { result ≡ self.now.count }
+        ensures { result ≡ length self.now.list.items }
     {
-        self.count
+        self.list.len() as u8
     }
 
     pub(crate) fn work(&self, a: u8) -> u16
-        ensures { result ≡ slice_index self.now.works a }
+        ensures { result ≡ slice_index (works_of self.now.list.items) a }
     {
-        if a < 16 { self.works[a as usize] } else { 0 }
+        self.list.get(a as usize).map_or(0, |row| row.work)
     }
 
     pub(crate) fn left(&self, a: u8) -> u16
-        ensures { result ≡ slice_index self.now.left a }
+        ensures { result ≡ slice_index (lefts_of self.now.list.items) a }
     {
-        if a < 16 { self.left[a as usize] } else { 0 }
-    }
-
-    // Whether an actor is there and has no work left.
-    pub(crate) fn is_idle(&self, a: u8) -> bool
-        ensures { result ≡ (nat_lt a self.now.count && slice_index self.now.left a == 0) }
-    {
-        a < self.count && self.left(a) == 0
+        self.list.get(a as usize).map_or(0, |row| row.left)
     }
 
     // One tick for every actor.
     pub(crate) fn serve_all(&mut self)
-        ensures number { self.new.count ≡ self.old.count }
-        ensures works { self.new.works ≡ self.old.works }
-        ensures left { (a : ℕ) → slice_index self.new.left a ≡ slice_index self.old.left a - 1 }
+        ensures { FreeTicks self.old.list.items self.new.list.items }
     {
-        wear(&mut self.left);
+        serve(self.list.as_mut_slice());
     }
 
     // One tick for one actor.
     pub(crate) fn serve_one(&mut self, a: u8)
-        requires { (a < self.old.count) × (0 < slice_index self.old.left a) }
-        ensures number { self.new.count ≡ self.old.count }
-        ensures works { self.new.works ≡ self.old.works }
-        ensures served { slice_index self.new.left a ≡ slice_index self.old.left a - 1 }
-        ensures others { (b : ℕ) → (b ≢ a) → slice_index self.new.left b ≡ slice_index self.old.left b }
+        requires { (a < length self.old.list.items) × (0 < slice_index (lefts_of self.old.list.items) a) }
+        ensures number { length self.new.list.items ≡ length self.old.list.items }
+        ensures works { works_of self.new.list.items ≡ works_of self.old.list.items }
+        ensures served { slice_index (lefts_of self.new.list.items) a ≡ slice_index (lefts_of self.old.list.items) a - 1 }
+        ensures others { (b : ℕ) → (b ≢ a) → slice_index (lefts_of self.new.list.items) b ≡ slice_index (lefts_of self.old.list.items) b }
     {
-        self.left[a as usize] -= 1;
+        self.list[a as usize].left -= 1;
     }
 
-    // Gives an actor its work.
-    pub(crate) fn give(&mut self, a: u8)
-        requires { a < self.old.count }
-        ensures number { self.new.count ≡ self.old.count }
-        ensures works { self.new.works ≡ self.old.works }
-        ensures given { slice_index self.new.left a ≡ slice_index self.old.works a }
-        ensures others { (b : ℕ) → (b ≢ a) → slice_index self.new.left b ≡ slice_index self.old.left b }
+    // Gives an actor its work, if it is there and has none left.
+    pub(crate) fn lay(&mut self, a: u8) -> bool
+        ensures value { result ≡ (nat_lt a (length self.old.list.items) && slice_index (lefts_of self.old.list.items) a == 0) }
+        ensures done { result ≡ true → RowsLaid self.old.list.items a self.new.list.items }
+        ensures refused { result ≡ false → self.new ≡ self.old }
     {
-        self.left[a as usize] = self.works[a as usize];
+        match self.list.get_mut(a as usize) {
+            Some(row) if row.left == 0 => {
+                row.left = row.work;
+                true
+            }
+            _ => false,
+        }
     }
 
     // Takes away all work left.
     pub(crate) fn clear(&mut self)
-        ensures number { self.new.count ≡ self.old.count }
-        ensures works { self.new.works ≡ self.old.works }
-        ensures left { (a : ℕ) → slice_index self.new.left a ≡ 0 }
+        ensures { RowsCleared self.old.list.items self.new.list.items }
     {
-        self.left = [0; 16];
+        clear(self.list.as_mut_slice());
     }
 }

@@ -18,6 +18,7 @@ pub struct Slice<P: Policy> {
     ghost on: { wheel < period },
     ghost within: { slots ≤ period },
     ghost one: { 0 < slots },
+    ghost fits: { (a : ℕ) → wide period slots ((P.Policy.view below).promise a) ≤ 65535 },
 }
 
 // The promise over a promise of `d` below.
@@ -25,9 +26,8 @@ fn widened(period: u8, slots: u8, d: u16) -> u32
     requires { (0 < slots) × (slots ≤ period) }
     ensures { result ≡ wide period slots d }
 {
-    let s = slots as u32;
     let d = d as u32;
-    d + (period as u32 - s) * ((d + (s - 1)) / s)
+    d + (period - slots) as u32 * d.div_ceil(slots as u32)
 }
 
 // How many stretches of other positions come before so many under `slots` have gone by.
@@ -65,12 +65,13 @@ impl<P: Policy> Slice<P> {
         if slots == 0 || slots > period {
             return Err(Fault::Limits(0));
         }
-        for a in 0..below.number() {
-            if widened(period, slots, below.promise(a)) > 65535 {
-                return Err(Fault::Promise(a));
-            }
+        let too_long = |a: &u8|
+            requires { (0 < slots) × (slots ≤ period) }
+        { widened(period, slots, below.promise(*a)) > 65535 };
+        match (0..below.number()).find(too_long) {
+            Some(a) => Err(Fault::Promise(a)),
+            None => Ok(()),
         }
-        Ok(())
     }
 
     // The wheel at 0; a period of 1 and one slot where the check refuses.
@@ -93,13 +94,6 @@ impl<P: Policy> Slice<P> {
                 wheel: 0,
             },
         }
-    }
-
-    // Whether an actor's promise is 65,535 or less.
-    fn fits(&self, a: u8) -> bool
-        ensures { result ≡ nat_le (wide self.now.period self.now.slots ((P.Policy.view self.now.below).promise a)) 65535 }
-    {
-        widened(self.period, self.slots, self.below.promise(a)) <= 65535
     }
 }
 
@@ -125,33 +119,25 @@ impl<P: Policy> Policy for Slice<P> {
     }
 
     fn work(&self, a: u8) -> u16 {
-        if self.fits(a) { self.below.work(a) } else { 0 }
+        self.below.work(a)
     }
 
     fn promise(&self, a: u8) -> u16
         ensures value { result ≡ (sliced (P.Policy.view self.now.below) self.now.period self.now.slots self.now.wheel).promise a }
-        ensures longest { wide self.now.period self.now.slots ((P.Policy.view self.now.below).promise a) ≤ 65535 → Longest self.now.period self.now.slots ((P.Policy.view self.now.below).promise a) result }
+        ensures longest { Longest self.now.period self.now.slots ((P.Policy.view self.now.below).promise a) result }
     {
-        if self.fits(a) {
-            widened(self.period, self.slots, self.below.promise(a)) as u16
-        } else {
-            0
-        }
+        widened(self.period, self.slots, self.below.promise(a)) as u16
     }
 
     fn left(&self, a: u8) -> u16 {
-        if self.fits(a) { self.below.left(a) } else { 0 }
+        self.below.left(a)
     }
 
     fn due(&self, a: u8) -> u16
         ensures value { result ≡ (sliced (P.Policy.view self.now.below) self.now.period self.now.slots self.now.wheel).due a }
-        ensures until { wide self.now.period self.now.slots ((P.Policy.view self.now.below).promise a) ≤ 65535 → Until self.now.period self.now.slots self.now.wheel ((P.Policy.view self.now.below).due a) result }
+        ensures until { Until self.now.period self.now.slots self.now.wheel ((P.Policy.view self.now.below).due a) result }
     {
-        if self.fits(a) {
-            awaited(self.period, self.slots, self.wheel, self.below.due(a)) as u16
-        } else {
-            0
-        }
+        awaited(self.period, self.slots, self.wheel, self.below.due(a)) as u16
     }
 
     fn serve(&mut self) {
@@ -167,10 +153,6 @@ impl<P: Policy> Policy for Slice<P> {
     }
 
     fn lay(&mut self, a: u8) -> bool {
-        if self.fits(a) {
-            self.below.lay(a)
-        } else {
-            a < self.below.number()
-        }
+        self.below.lay(a)
     }
 }

@@ -2,7 +2,7 @@ use Rattle.std.proofs.Common.{◌≡◌, ℕ, zero, suc, ◌<◌, ◌≤◌, get
 use Rattle.policy.specs.declared.free.Free.{Free}
 use Rattle.policy.specs.Wheel.{wide}
 use Rattle.policy.specs.Slices.{shown, Sliceable}
-use Rattle.policy.specs.Works.{Workable, freed}
+use Rattle.policy.specs.Works.{Workable, works_of, freed}
 use Rattle.policy.specs.Worked.{works}
 use Rattle.policy.specs.Waits.{wait_until, wide_longest}
 use Rattle.policy.proofs.worked.worked_promises.Goals as goal
@@ -32,15 +32,15 @@ promised p s d x e f g =
 pub returns : goal.returns
 returns c =
     let rows = c.new.result.rows in
-    let is : (a : ℕ) → get_or rows.works a 0 ≡ get_or works a 0 = c.new.ensures.works workable in
-    let sliceable : Sliceable (freed rows.count rows.works rows.left) 5 2 = record { one = lit< tt; within = lit≤ tt; fits = λ a. omega (arith, fits a, ap (wide 5 2) (is a)) } in
+    let is : (a : ℕ) → get_or (works_of rows.list.items) a 0 ≡ get_or works a 0 = c.new.ensures.works workable in
+    let sliceable : Sliceable (freed rows.list.items) 5 2 = record { one = lit< tt; within = lit≤ tt; fits = λ a. omega (arith, fits a, ap (wide 5 2) (is a)) } in
     let made = c.new-slice.ensures.made.taken sliceable in
     let slice = c.new-slice.result in
-    let below : (a : ℕ) → get_or slice.below.rows.works a 0 ≡ get_or works a 0 = λ a. ap (λ (b : Free). get_or b.rows.works a 0) c.new-slice.ensures.value.0 ∙ is a in
+    let below : (a : ℕ) → get_or (works_of slice.below.rows.list.items) a 0 ≡ get_or works a 0 = λ a. ap (λ (b : Free). get_or (works_of b.rows.list.items) a 0) c.new-slice.ensures.value.0 ∙ is a in
     record {
       value = (
-        c.promise.ensures.value ∙ promised slice.period slice.slots (get_or slice.below.rows.works 0 0) 2 made.0 made.1 (below 0),
-        c.promise-2.ensures.value ∙ promised slice.period slice.slots (get_or slice.below.rows.works 1 0) 3 made.0 made.1 (below 1),
+        c.promise.ensures.value ∙ promised slice.period slice.slots (get_or (works_of slice.below.rows.list.items) 0 0) 2 made.0 made.1 (below 0),
+        c.promise-2.ensures.value ∙ promised slice.period slice.slots (get_or (works_of slice.below.rows.list.items) 1 0) 3 made.0 made.1 (below 1),
       );
       shown = record {
         two = refl;

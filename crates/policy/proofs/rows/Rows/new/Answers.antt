@@ -1,16 +1,20 @@
-use Rattle.std.proofs.Common.{refl, ⊎_elim, arith, rules}
-use Rattle.std.proofs.lemmas.List.{get_or_past}
-use Rattle.std.proofs.lemmas.Bool.{cases_lt}
+use Rattle.std.proofs.Common.{◌≡◌, ◌≤◌, List, map, length, subst, sym, ap, ◌∙◌, take_all}
+use Rattle.std.specs.List.{All}
+use Rattle.policy.specs.declared.rows.Row.{Row}
+use Rattle.policy.specs.Works.{Fit, fresh, RowsMade}
+use Rattle.policy.proofs.Writes.{made_fresh, few_fresh, fit_fresh}
 use Rattle.policy.proofs.rows.Rows.new.Goals as goal
+
+pub invariant_of-result-2 : goal.invariant_of-result-2
+invariant_of-result-2 c =
+    let ws = c.args.works.now in
+    let k = c.loop-work.invariant.0 in
+    let e : map fresh ws ≡ c.loop-work.list.items = sym (c.loop-work.invariant.1 ∙ ap (map fresh) (take_all _ ws c.loop-work-test.false)) in
+    record { few = subst (λ (rs : List Row). length rs ≤ 16) e (few_fresh ws k); fit = subst (All Fit) e (fit_fresh ws k) }
 
 pub returns : goal.returns
 returns c =
-    record {
-      number = λ _. refl;
-      works = λ _ a.
-          ⊎_elim (λ h. c.loop-i.invariant.2 a h)
-          (λ h. omega (arith, c.loop-i.invariant.3 a h, get_or_past c.args.works.now a 0 (omega arith)))
-          (cases_lt a c.loop-i.i);
-      refused = λ n. absurd (n c.loop-i.invariant.0);
-      idle = search rules;
-    }
+    let ws = c.args.works.now in
+    let k = c.loop-work.invariant.0 in
+    let e : map fresh ws ≡ c.loop-work.list.items = sym (c.loop-work.invariant.1 ∙ ap (map fresh) (take_all _ ws c.loop-work-test.false)) in
+    subst (RowsMade ws) e (made_fresh ws k)

@@ -1,6 +1,6 @@
-use Rattle.std.proofs.Common.{◌≡◌, ℕ, ◌<◌, ◌≤◌, length, get_or}
-use Rattle.policy.specs.Works.{Workable}
+use Rattle.std.proofs.Common.{◌≡◌, map, take}
+use Rattle.policy.specs.Works.{Workable, fresh}
 use Rattle.policy.proofs.rows.Rows.new.Given as goal
 
-abbrev pub invariant-loop-i : goal.invariant-loop-i
-invariant-loop-i l = Workable l.works × (length l.row ≡ 16) × ((a : ℕ) → a < l.i → get_or l.row a 0 ≡ get_or l.works a 0) × ((a : ℕ) → l.i ≤ a → get_or l.row a 0 ≡ 0)
+abbrev pub invariant-loop-work : goal.invariant-loop-work
+invariant-loop-work l = Workable l.works × (l.list.items ≡ map fresh (take l.work-index l.works))
