@@ -131,6 +131,8 @@ impl Standing {
     // What stands before the starts of tick 0.
     pub fn initial(graph: &Graph) -> Standing
         ensures begins { Matches (net graph.now) (state_of result) (initial_state (net graph.now)) }
+        ensures counts { (a : ℕ) → (state_of result).ended a ≡ 0 }
+        ensures within { Within (net graph.now) (state_of result) }
         ensures vacant { Vacant (net graph.now) (state_of result) }
     {
         let channels = graph.channels();
@@ -195,6 +197,8 @@ impl Standing {
     // Every ready actor starts once.
     pub fn start_ready(&mut self, graph: &Graph, times: &[u16; 16])
         ensures after { Matches (net graph.now) (state_of self.new) (start (net graph.now) (at times.now) (state_of self.old)) }
+        ensures counts { (a : ℕ) → (state_of self.new).ended a ≡ (state_of self.old).ended a }
+        ensures within { Within (net graph.now) (state_of self.old) → Within (net graph.now) (state_of self.new) }
         ensures vacant { Vacant (net graph.now) (state_of self.old) → Vacant (net graph.now) (state_of self.new) }
     {
         let go = self.ready(graph);
@@ -232,6 +236,8 @@ impl Standing {
         ensures size { length result ≡ 16 }
         ensures done { (a : ℕ) → a < (net graph.now).actors → flag result a ≡ ends (state_of self.old) (taken (state_of self.old) (at left.now)) a }
         ensures after { Matches (net graph.now) (state_of self.new) (finished (net graph.now) (taken (state_of self.old) (at left.now)) (state_of self.old)) }
+        ensures counts { (a : ℕ) → (state_of self.new).ended a ≤ (state_of self.old).ended a + 1 }
+        ensures within { Within (net graph.now) (state_of self.new) }
         ensures vacant { Vacant (net graph.now) (state_of self.old) → Vacant (net graph.now) (state_of self.new) }
     {
         let done = self.serve(left);
