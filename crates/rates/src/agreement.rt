@@ -22,10 +22,5 @@ pub fn lowest_differing<P: Policy>(graph: &Graph, policy: &P) -> Option<u8>
 {
     let actors = graph.actors().len();
     let times = times(graph);
-    for a in 0..16u8 {
-        if !agrees(actors, &times, policy, a) {
-            return Some(a);
-        }
-    }
-    None
+    (0..16u8).find(|a| !agrees(actors, &times, policy, *a))
 }

@@ -1,12 +1,10 @@
 // Rows of the tokens and ticks left of a run.
-ghost use Rattle.std.specs.Prelude.{◌≡◌};
-ghost use Rattle.std.specs.Str.{bytes_eq as same_numbers};
 ghost use Rattle.rates.specs.Rows.{same_row};
 
 use table::Record;
 
 // What stood at a tick: the tokens by channel and the ticks left by actor, zeros after those of the graph.
-#[derive(Clone, Copy)]
+#[derive(Clone, Copy, PartialEq, Eq, Debug)]
 pub struct Sample {
     pub tokens: [u16; 32],
     pub left: [u16; 16],
@@ -22,20 +20,13 @@ impl Sample {
     };
 }
 
-// Whether two rows of numbers are the same.
-fn equal(a: &[u16], b: &[u16]) -> bool
-    ensures { result ≡ same_numbers a.now b.now }
-{
-    a == b
-}
-
 impl Record for Sample {
     ghost alike = { same_row };
 
     ghost stamped = { λ a. a.tick };
 
     fn same(&self, other: &Sample) -> bool {
-        equal(&self.tokens[..], &other.tokens[..]) && equal(&self.left[..], &other.left[..])
+        self.tokens == other.tokens && self.left == other.left
     }
 
     fn stamp(&self) -> u32 {
