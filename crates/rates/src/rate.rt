@@ -20,7 +20,7 @@ use table::Table;
 pub const LAST_TICK: u32 = 10_000_000;
 
 // What a run comes to.
-#[derive(Clone, Copy)]
+#[derive(Clone, Copy, PartialEq, Eq, Debug)]
 pub enum Rate {
     // From tick f on, any d ticks see m times the repetition counts.
     Repeats { f: u32, d: u32, m: u32 },
@@ -28,19 +28,8 @@ pub enum Rate {
     Standstill { f: u32 },
 }
 
-// The tick of a row taken.
-fn row_tick(table: &Table<'_, Sample>, r: usize) -> u32
-    requires { r < table.now.used }
-    ensures { (d : Row) → result ≡ (slice_index_or table.now.rows.now r d).tick }
-{
-    match table.row(r) {
-        Some(row) => row.tick,
-        None => unreachable(),
-    }
-}
-
-// What a due sample answers: that the first row like it comes again, or that there is no row for it; else it takes one.
-fn sampled(table: &mut Table<'_, Sample>, row: Sample) -> Option<Result<Rate, Fault>>
+// What a due sample tells: the rate, if it is like a row; else it takes one, if there is one.
+fn sampled(table: &mut Table<'_, Sample>, row: Sample) -> Result<Option<Rate>, Fault>
     requires few { (table.old.used ≤ row.tick) × (row.tick ≤ last_tick) }
     requires tops { Upto row.tick table.old.rows.now table.old.used }
     ensures value { SampledIs table.old.rows.now table.old.used row table.new.rows.now table.new.used result }
@@ -48,20 +37,18 @@ fn sampled(table: &mut Table<'_, Sample>, row: Sample) -> Option<Result<Rate, Fa
     ensures lender { table.new.rows.ghost_name ≡ table.old.rows.ghost_name }
 {
     let Some(r) = table.find(&row) else {
-        return match table.add(row) {
-            Ok(_) => None,
-            Err(_) => Some(Err(Fault::NoRow)),
-        };
+        table.add(row).map_err(|_| Fault::NoRow)?;
+        return Ok(None);
     };
-    let f = row_tick(table, r);
-    Some(Ok(Rate::Repeats {
+    let f = table.row(r).unwrap().tick;
+    Ok(Some(Rate::Repeats {
         f,
         d: row.tick - f,
         m: (table.len() - r) as u32,
     }))
 }
 
-// What a tick answers, after its starts, if it answers anything.
+// What a tick tells, after its starts: the rate, once it is known.
 fn judged(
     actors: usize,
     channels: usize,
@@ -69,7 +56,7 @@ fn judged(
     due: bool,
     tick: u32,
     table: &mut Table<'_, Sample>,
-) -> Option<Result<Rate, Fault>>
+) -> Result<Option<Rate>, Fault>
     requires room { (actors ≤ 16) × (channels ≤ 32) }
     requires few { (table.old.used ≤ tick) × (tick ≤ last_tick) }
     requires tops { Upto tick table.old.rows.now table.old.used }
@@ -78,10 +65,10 @@ fn judged(
     ensures lender { table.new.rows.ghost_name ≡ table.old.rows.ghost_name }
 {
     if is_still(actors, run) {
-        return Some(Ok(Rate::Standstill { f: tick }));
+        return Ok(Some(Rate::Standstill { f: tick }));
     }
     if !due {
-        return None;
+        return Ok(None);
     }
     sampled(table, sample(actors, channels, run, tick))
 }
@@ -118,8 +105,8 @@ fn rate_over(
     let mut due = true;
     let mut tick = 0;
     'ticks: loop {
-        if let Some(answer) = judged(actors, channels.len(), &run, due, tick, &mut table) {
-            return answer;
+        if let Some(rate) = judged(actors, channels.len(), &run, due, tick, &mut table)? {
+            return Ok(rate);
         }
         if tick == LAST_TICK {
             return Err(Fault::LastTick);
