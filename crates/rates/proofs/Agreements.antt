@@ -23,12 +23,12 @@ agree_past g v s a h =
     }
 
 -- the first of actors 0 to 15 that differs is the lowest of all
-pub lowest_of : (g : Graph) (v : View) → Sound v → (r : Option ℕ) →
-    MatchOption r ((b : ℕ) → 0 ≤ b → b < 16 → Agree (net g).actors (times_of g) v b)
-    (λ a. (0 ≤ a) × (a < 16) × (Agree (net g).actors (times_of g) v a → ⊥) × ((b : ℕ) → 0 ≤ b → b < a → Agree (net g).actors (times_of g) v b)) →
+pub lowest_of : (g : Graph) (v : View) → Sound v → {low high : ℕ} → low ≡ 0 → high ≡ 16 → (r : Option ℕ) →
+    MatchOption r ((b : ℕ) → low ≤ b → b < high → Agree (net g).actors (times_of g) v b)
+    (λ a. (low ≤ a) × (a < high) × (Agree (net g).actors (times_of g) v a → ⊥) × ((b : ℕ) → low ≤ b → b < a → Agree (net g).actors (times_of g) v b)) →
     Lowest (net g) (times_of g) v r
-lowest_of g v s None agree = λ a. elim (cases_lt a 16) [ inl lt ↦ agree a (omega arith) lt | inr ge ↦ agree_past g v s a ge ]
-lowest_of g v s (Some a) (_, _, differs, below) = record { differs = differs; lowest = λ b lt. below b (omega arith) lt }
+lowest_of g v s l h None agree = λ a. elim (cases_lt a 16) [ inl lt ↦ agree a (omega arith) (omega arith) | inr ge ↦ agree_past g v s a ge ]
+lowest_of g v s l h (Some a) (_, _, differs, below) = record { differs = differs; lowest = λ b lt. below b (omega arith) lt }
 
 -- there is one lowest
 pub lowest_one : (n : Net) (time : ℕ → ℕ) (v : View) (a b : ℕ) → Differ n time v a → Differ n time v b → a ≡ b
