@@ -58,7 +58,7 @@ SampledIs xs n x ys m (Err (Works a)) = ⊥
 SampledIs xs n x ys m (Err Absent) = ⊥
 
 -- standstill first, then the sample, if it is due
-pub record Judged (actors channels : ℕ) (s : State) (due : Bool) (t : ℕ) (xs : List Sample) (n : ℕ) (ys : List Sample) (m : ℕ) (r : Result (Option Rate) Fault) : Type 0 where
-  pub still : every actors (λ a. not (busy s a)) ≡ true → (r ≡ Ok (Some (Standstill t))) × (ys ≡ xs) × (m ≡ n)
-  pub on : every actors (λ a. not (busy s a)) ≡ false → due ≡ false → (r ≡ Ok None) × (ys ≡ xs) × (m ≡ n)
-  pub sampled : every actors (λ a. not (busy s a)) ≡ false → due ≡ true → SampledIs xs n (row_of actors channels s t) ys m r
+pub record Judged (n : Net) (s : State) (due : Bool) (t : ℕ) (xs : List Sample) (used : ℕ) (ys : List Sample) (m : ℕ) (r : Result (Option Rate) Fault) : Type 0 where
+  pub still : every n.actors (λ a. not (busy s a)) ≡ true → (r ≡ Ok (Some (Standstill t))) × (ys ≡ xs) × (m ≡ used)
+  pub on : every n.actors (λ a. not (busy s a)) ≡ false → due ≡ false → (r ≡ Ok None) × (ys ≡ xs) × (m ≡ used)
+  pub sampled : every n.actors (λ a. not (busy s a)) ≡ false → due ≡ true → SampledIs xs used (row_of n s t) ys m r

@@ -29,5 +29,5 @@ pub fn promised_rate<P: Policy>(
     if let Some(a) = lowest_differing(graph, policy) {
         return Err(Fault::Works(a));
     }
-    rate_with(graph, &promises(policy), rows)
+    rate_with(graph, promises(policy), rows)
 }

@@ -1,6 +1,10 @@
 // Rows of the tokens and ticks left of a run.
-ghost use Rattle.rates.specs.Rows.{same_row};
+ghost use Rattle.std.specs.Prelude.{◌≡◌};
+ghost use Rattle.runs.specs.Seen.{net, state};
+ghost use Rattle.rates.specs.Rows.{same_row, row_of};
 
+use runs::Run;
+use std::array::from_fn;
 use table::Record;
 
 // What stood at a tick: the tokens by channel and the ticks left by actor, zeros after those of the graph.
@@ -18,6 +22,19 @@ impl Sample {
         left: [0; 16],
         tick: 0,
     };
+}
+
+impl From<&Run<'_>> for Sample {
+    ghost from_gives = { λ run row. row ≡ row_of (net run.now.graph.now) (state run.now) run.now.tick };
+
+    // What stands in a run.
+    fn from(run: &Run<'_>) -> Sample {
+        Sample {
+            tokens: from_fn(|c| run.tokens(c)),
+            left: from_fn(|a| run.left(a)),
+            tick: run.tick(),
+        }
+    }
 }
 
 impl Record for Sample {
