@@ -1,6 +1,7 @@
 use Rattle.std.proofs.Common.{◌≡◌, Err, refl, ap, ◌∙◌, arith, rules}
 use Rattle.runs.proofs.Graphs.{graph_some, graph_fitting}
-use Rattle.rates.proofs.Going.{graph_begins, graph_comes, graph_goes_on, answers_so, ends_so, rated_over}
+use Rattle.rates.proofs.Going.{answers_so, ends_so, rated_over}
+use Rattle.rates.proofs.Graphs.{graph_begins, graph_comes, graph_goes_on}
 use Rattle.rates.proofs.rate.rate_with.Goals as goal
 
 pub ticks-init : goal.ticks-init
