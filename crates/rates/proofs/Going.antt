@@ -159,13 +159,14 @@ module _ (n : Net) (time : ℕ → ℕ) (rep : ℕ) (before : List Sample) (fit 
     so_far = step_first n time rep room last_tick;
   }
 
-module _ {n : Net} {time : ℕ → ℕ} {rep : ℕ} {before : List Sample} (fit : (n.actors ≤ 16) × (n.channels ≤ 32)) {t : ℕ} {s : State} {due : Bool} {rows : List Sample} {used : ℕ}
-    (g : Going n time rep before t s due rows used) where
-  pub judged_comes : {rows' : List Sample} {used' : ℕ} {r : Result (Option Rate) Fault} →
-      (Rising rows used → Rising rows' used') →
-      Judged n s due t rows used rows' used' r → Comes n time rep before t rows rows' used' g.taken r
-  judged_comes {rows'} {used'} {r} = comes n time rep before fit t rows used g.taken g.kept s g.state due g.due rows' used' r
+pub judged_comes : {n : Net} {time : ℕ → ℕ} {rep : ℕ} {before : List Sample} (fit : (n.actors ≤ 16) × (n.channels ≤ 32)) {t : ℕ} {s : State} {due : Bool} {rows : List Sample} {used : ℕ}
+    (g : Going n time rep before t s due rows used) {rows' : List Sample} {used' : ℕ} {r : Result (Option Rate) Fault} → (Rising rows used → Rising rows' used') →
+    Judged n s due t rows used rows' used' r → Comes n time rep before t rows rows' used' g.taken r
+judged_comes {n} {time} {rep} {before} fit {t} {s} {due} {rows} {used} g {rows'} {used'} {r} =
+    comes n time rep before fit t rows used g.taken g.kept s g.state due g.due rows' used' r
 
+module _ {n : Net} {time : ℕ → ℕ} {rep : ℕ} {before : List Sample} {t : ℕ} {s : State} {due : Bool} {rows : List Sample} {used : ℕ}
+    (g : Going n time rep before t s due rows used) where
   pub answers_so : {rows' : List Sample} {r : Result Rate Fault} → Done n time rep before t rows rows' g.taken r → Rated n time rep before rows' r
   answers_so d =
       let o = g.so_far ∙ rated_answers n time rep (length before) t g.taken (last_tick - t) d.answer d.said in
