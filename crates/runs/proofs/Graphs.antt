@@ -14,7 +14,7 @@ use Rattle.graph.specs.Piece.{Way, start, along, back}
 use Rattle.graph.proofs.Graphs.{actors_are, channels_are}
 use Rattle.model.specs.Net.{Net, Timed, when}
 use Rattle.model.specs.Meaning.{Joined, first, along as on, back as off, Accepted}
-use Rattle.runs.specs.Seen.{net_of, net, at, times_of, reps_of}
+use Rattle.runs.specs.Nets.{net_of, net, at, times_of, reps_of}
 use Rattle.runs.specs.Loops.{Fitting}
 
 joins : (n : ℕ) (cs : List Channel) {a : ℕ} → Way cs a → Joined (net_of n cs) a

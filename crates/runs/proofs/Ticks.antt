@@ -1,98 +1,147 @@
 -- What the loops of a tick come to. Assumes nothing.
-use Rattle.std.proofs.Common.{◌≡◌, ℕ, ◌+◌, ◌-◌, ◌<◌, ◌≤◌, Bool, cond, ◌&&◌, eqb, List, length, sym, refl, ap, ◌∙◌, ap₂, arith}
+use Rattle.std.proofs.Common.{◌≡◌, ℕ, ◌+◌, ◌-◌, ◌<◌, ◌≤◌, ◌↔◌, IsTrue, inl, inr, Bool, true, false, cond, not, ltb, ◌&&◌, eqb, List, length, sym, refl, ap, ◌∙◌, ap₂, ⊎_elim, arith}
+use Rattle.std.proofs.lemmas.Bool.{cases_Bool, cases_lt, true≢false}
 use Rattle.std.proofs.lemmas.Bool.Decides.{nat_tests}
-use Rattle.graph.specs.declared.channel.Channel.{Channel}
-use Rattle.model.specs.Net.{Net, State, Timed, when, busy, start, ends, finish, tick, fallen, next, run}
+use Rattle.graph.specs.declared.graph.Graph.{Graph}
+use Rattle.graph.specs.Meaning.{actors_in, channels_in}
+use Rattle.model.specs.Net.{Net, State, when, busy, every, start, ends, finish, initial_state, tick, fallen, next, run}
 use Rattle.model.specs.Likeness.{Matches}
-use Rattle.model.proofs.Balance.{run_balanced, capacity_whole}
+use Rattle.model.proofs.Every.{every_from, every_true}
 use Rattle.model.proofs.Ready.{has_tokens, has_places}
-use Rattle.model.proofs.Runs.{run_few}
-use Rattle.model.proofs.Alikes.{alike_trans, start_alike, first_matches, tick_matches}
-use Rattle.runs.specs.declared.run.Run.{Run}
-use Rattle.runs.specs.Firings.{lefts}
-use Rattle.runs.specs.Seen.{net_of, at, state, taken}
-use Rattle.runs.specs.Loops.{Bounded, Fitting, Roomy, Countable, Marked, Takes, Taken, Begun, Filled, Rested, Fallen, Tallied, Given}
+use Rattle.model.proofs.Alikes.{alike_trans, start_alike, tick_matches}
+use Rattle.runs.specs.Nets.{net, at, taken}
+use Rattle.runs.specs.Loops.{flag, Bounded, Fitting, Marked, Takes, Taken, Begun, Served, Given}
+use Rattle.runs.specs.Standings.{Vacant}
+use Rattle.runs.proofs.Graphs.{graph_fitting}
 
 -- the firings of a run take the ticks that fall
 pub taken_falls : (s : State) (a : ℕ) → taken s (fallen s) a ≡ fallen s a
 taken_falls s a = grind (arith, nat_tests)
 
-module _ (n : ℕ) (cs : List Channel) (fit : Fitting n cs) where
-  abbrev g : Net
-  g = net_of n cs
+at_most_one : (b : Bool) → when b 1 ≤ 1
+at_most_one true = omega arith
+at_most_one false = omega arith
 
-  pub bounded : Bounded cs
+module _ (gr : Graph) where
+  abbrev g : Net
+  g = net gr
+
+  abbrev fit : Fitting (length (actors_in gr)) (channels_in gr)
+  fit = graph_fitting gr
+
+  pub bounded : Bounded (channels_in gr)
   bounded = (fit.few.1, λ c hc. (omega (arith, fit.few, fit.sound.source_in c hc), omega (arith, fit.few, fit.sound.dest_in c hc)))
 
-  pub takes : (r : Run) (go : List Bool) → Marked (length cs) n cs r go → Takes cs go r
-  takes r go h = record {
-    tokens = λ c hc t. has_tokens g (state r) c hc (sym (h.are (g.dest c) (fit.sound.dest_in c hc)) ∙ t);
-    places = λ c hc t. has_places g (state r) c hc (sym (h.are (g.source c) (fit.sound.source_in c hc)) ∙ t);
-  }
+  -- the ready actors start
+  module _ (s : State) (go : List Bool) (h : Marked g.channels g.actors (channels_in gr) s go) where
+    pub takes : Takes (channels_in gr) go s
+    takes = record {
+      tokens = λ c hc t. has_tokens g s c hc (sym (h.are (g.dest c) (fit.sound.dest_in c hc)) ∙ t);
+      places = λ c hc t. has_places g s c hc (sym (h.are (g.source c) (fit.sound.source_in c hc)) ∙ t);
+    }
 
-  pub starts : (times : List ℕ) (r z w : Run) (go : List Bool) → Marked (length cs) n cs r go → Taken (length cs) cs go r z → Begun n times go z w →
-      Matches g (state w) (start g (at times) (state r))
-  starts times r z w go h t b = record {
-    alike = record {
-      tokens = λ c hc. ap (λ xs. at xs c) b.tokens ∙ t.tokens_are c hc ∙ ap (λ x. at r.tokens c - when x (g.q c)) (h.are (g.dest c) (fit.sound.dest_in c hc));
-      free = λ c hc. ap (λ xs. at xs c) b.free ∙ t.free_are c hc ∙ ap (λ x. at r.free c - when x (g.p c)) (h.are (g.source c) (fit.sound.source_in c hc));
-      left = λ a ha. b.are a ha ∙ ap₂ (λ x fs. cond x (at times a) (lefts fs a)) (h.are a ha) t.firings;
-    };
-    ended = λ a ha. ap (λ xs. at xs a) (b.counts ∙ t.counts);
-  }
+    module _ (times : List ℕ) (z w : State) (t : Taken g.channels (channels_in gr) go s z) (b : Begun 16 times go z w) where
+      pub starts : Matches g w (start g (at times) s)
+      starts = record {
+        alike = record {
+          tokens = λ c hc. ap (λ f. f c) b.tokens ∙ t.tokens_are c hc ∙ ap (λ x. s.tokens c - when x (g.q c)) (h.are (g.dest c) (fit.sound.dest_in c hc));
+          free = λ c hc. ap (λ f. f c) b.free ∙ t.free_are c hc ∙ ap (λ x. s.free c - when x (g.p c)) (h.are (g.source c) (fit.sound.source_in c hc));
+          left = λ a ha. b.left_are a (omega (arith, fit.few)) ∙ ap₂ (λ x f. cond x (at times a) (f a)) (h.are a ha) t.left;
+        };
+        ended = λ a ha. b.ended a ∙ ap (λ f. f a) t.ended;
+      }
 
-  pub reset_matches : (times : List ℕ) (r z y w : Run) → Filled (length cs) cs r z → Rested n z y → Matches g (state w) (start g (at times) (state y)) →
-      Matches g (state w) (run g (at times) 0)
-  reset_matches times r z y w f e st = first_matches g fit.sound (at times) (state y) (state w) st.alike
-      (record {
-        tokens = λ c hc. ap (λ xs. at xs c) e.tokens ∙ f.tokens_are c hc;
-        free = λ c hc. ap (λ xs. at xs c) e.free ∙ f.free_are c hc;
-        left = e.left_are;
-      })
-      (λ a ha. st.ended a ha ∙ e.counts_are a ha)
+      pub starts_counts : (a : ℕ) → w.ended a ≡ s.ended a
+      starts_counts a = b.ended a ∙ ap (λ f. f a) t.ended
 
-  pub finish_matches : (left : List ℕ) (r z y x : Run) (done : List Bool) → Fallen n left r z done → Tallied n done z y → Given (length cs) cs done y x →
-      Matches g (state x) (finish g (taken (state r) (at left)) (state r))
-  finish_matches left r z y x done f t v = record {
-    alike = record {
-      tokens = λ c hc. v.tokens_are c hc ∙ ap₂ (λ xs b. at xs c + when b (g.p c)) (t.tokens ∙ f.tokens) (f.done_are (g.source c) (fit.sound.source_in c hc));
-      free = λ c hc. v.free_are c hc ∙ ap₂ (λ xs b. at xs c + when b (g.q c)) (t.free ∙ f.free) (f.done_are (g.dest c) (fit.sound.dest_in c hc));
-      left = λ a ha. ap (λ fs. lefts fs a) (v.firings ∙ t.firings) ∙ f.are a ha;
-    };
-    ended = λ a ha. ap (λ xs. at xs a) v.counts ∙ t.are a ha ∙ ap₂ (λ xs b. at xs a + when b 1) f.counts (f.done_are a ha);
-  }
+      pub starts_vacant : Vacant g s → Vacant g w
+      starts_vacant v = (
+        λ c hc. (ap (λ f. f c) b.tokens ∙ t.tokens_stay c hc ∙ (v.0 c hc).0, ap (λ f. f c) b.free ∙ t.free_stay c hc ∙ (v.0 c hc).1),
+        λ a ha. (
+          ⊎_elim (λ lt. b.left_are a lt ∙ ap₂ (λ x f. cond x (at times a) (f a)) (h.absent a ha) t.left) (λ ge. b.left_stay a ge ∙ ap (λ f. f a) t.left) (cases_lt a 16) ∙ (v.1 a ha).0,
+          b.ended a ∙ ap (λ f. f a) t.ended ∙ (v.1 a ha).1,
+        ),
+      )
 
-  -- ends, and then starts
-  pub step_matches : (time : ℕ → ℕ) (new : ℕ → ℕ) (s : State) (r z : Run) → Matches g (state r) (finish g new s) → Matches g (state z) (start g time (state r)) →
-      Matches g (state z) (tick g time new s)
-  step_matches time new s r z f st = record {
-    alike = alike_trans g _ _ _ st.alike (start_alike g fit.sound time _ _ f.alike);
-    ended = λ a ha. st.ended a ha ∙ f.ended a ha;
-  }
+  -- firings end
+  module _ (left : List ℕ) (s z w : State) (done : List Bool) (f : Served 16 left s z done) (v : Given g.channels (channels_in gr) done z w) where
+    few : (a : ℕ) → a < g.actors → a < 16
+    few a ha = omega (arith, fit.few)
+
+    pub finish_ends : (a : ℕ) → a < g.actors → flag done a ≡ ends s (taken s (at left)) a
+    finish_ends a ha = f.done_are a (few a ha)
+
+    pub finishes : Matches g w (finish g (taken s (at left)) s)
+    finishes = record {
+      alike = record {
+        tokens = λ c hc. v.tokens_are c hc ∙ ap₂ (λ t b. t c + when b (g.p c)) f.tokens (finish_ends (g.source c) (fit.sound.source_in c hc));
+        free = λ c hc. v.free_are c hc ∙ ap₂ (λ t b. t c + when b (g.q c)) f.free (finish_ends (g.dest c) (fit.sound.dest_in c hc));
+        left = λ a ha. ap (λ t. t a) v.left ∙ f.left_are a (few a ha);
+      };
+      ended = λ a ha. ap (λ t. t a) v.ended ∙ f.ended_are a (few a ha);
+    }
+
+    pub finishes_counts : (a : ℕ) → w.ended a ≤ s.ended a + 1
+    finishes_counts a =
+        ⊎_elim (λ lt. omega (arith, ap (λ t. t a) v.ended, f.ended_are a lt, at_most_one (ends s (taken s (at left)) a)))
+        (λ ge. omega (arith, ap (λ t. t a) v.ended, f.ended_stay a ge)) (cases_lt a 16)
+
+    idle_left : (a l : ℕ) → s.left a ≡ 0 → cond (busy s a) l 0 ≡ 0
+    idle_left a l e = grind (arith, nat_tests)
+
+    idle_ends : (a l : ℕ) → s.left a ≡ 0 → when (busy s a && eqb (cond (busy s a) l 0) 0) 1 ≡ 0
+    idle_ends a l e = grind (arith, nat_tests)
+
+    pub finishes_vacant : Vacant g s → Vacant g w
+    finishes_vacant e = (
+      λ c hc. (v.tokens_stay c hc ∙ ap (λ t. t c) f.tokens ∙ (e.0 c hc).0, v.free_stay c hc ∙ ap (λ t. t c) f.free ∙ (e.0 c hc).1),
+      λ a ha. let zero = e.1 a ha in (
+        ap (λ t. t a) v.left ∙ ⊎_elim (λ lt. f.left_are a lt ∙ idle_left a (at left a) zero.0) (λ ge. f.left_stay a ge ∙ zero.0) (cases_lt a 16),
+        ap (λ t. t a) v.ended ∙ ⊎_elim (λ lt. f.ended_are a lt ∙ omega (arith, zero.1, idle_ends a (at left a) zero.0)) (λ ge. f.ended_stay a ge ∙ zero.1) (cases_lt a 16),
+      ),
+    )
+
+  module _ (time : ℕ → ℕ) where
+    -- starts from what stands before tick 0
+    pub first : (s z : State) → Matches g s (initial_state g) → Matches g z (start g time s) → Matches g z (run g time 0)
+    first s z b st = record {
+      alike = alike_trans g _ _ _ st.alike (start_alike g fit.sound time _ _ b.alike);
+      ended = λ a ha. st.ended a ha ∙ b.ended a ha;
+    }
+
+    -- ends, and then starts
+    pub goes : (new : ℕ → ℕ) (s m z : State) → Matches g m (finish g new s) → Matches g z (start g time m) → Matches g z (tick g time new s)
+    goes new s m z f st = record {
+      alike = alike_trans g _ _ _ st.alike (start_alike g fit.sound time _ _ f.alike);
+      ended = λ a ha. st.ended a ha ∙ f.ended a ha;
+    }
 
   -- with the ticks that fall
-  module _ (left times : List ℕ) (r w : Run) (falls : (a : ℕ) → a < n → at left a ≡ fallen (state r) a) where
-    falling : (a : ℕ) → a < n → taken (state r) (at left) a ≡ fallen (state r) a
-    falling a ha = ap (λ l. cond (busy (state r) a) l 0) (falls a ha) ∙ taken_falls (state r) a
+  module _ (left times : List ℕ) (s z : State) (falls : (a : ℕ) → a < 16 → at left a ≡ fallen s a) where
+    falling : (a : ℕ) → a < g.actors → taken s (at left) a ≡ fallen s a
+    falling a ha = ap (λ l. cond (busy s a) l 0) (falls a (omega (arith, fit.few))) ∙ taken_falls s a
 
-    pub next_ends : (a : ℕ) → a < n → ends (state r) (taken (state r) (at left)) a ≡ ends (state r) (fallen (state r)) a
-    next_ends a ha = ap (λ l. busy (state r) a && eqb l 0) (falling a ha)
+    pub next_ends : (a : ℕ) → a < g.actors → ends s (taken s (at left)) a ≡ ends s (fallen s) a
+    next_ends a ha = ap (λ l. busy s a && eqb l 0) (falling a ha)
 
-    pub next_follows : Matches g (state w) (tick g (at times) (taken (state r) (at left)) (state r)) → Matches g (state w) (next g (at times) (state r))
+    pub next_follows : Matches g z (tick g (at times) (taken s (at left)) s) → Matches g z (next g (at times) s)
     next_follows h =
-        let e = tick_matches g fit.sound (at times) (taken (state r) (at left)) (fallen (state r)) (state r) (state r)
+        let e = tick_matches g fit.sound (at times) (taken s (at left)) (fallen s) s s
         (record { alike = record { tokens = λ c hc. refl; free = λ c hc. refl; left = λ a ha. refl }; ended = λ a ha. refl }) falling in
         record { alike = alike_trans g _ _ _ h.alike e.alike; ended = λ a ha. h.ended a ha ∙ e.ended a ha }
 
-  -- the arrays have room for what a run puts there
-  module _ (time : ℕ → ℕ) (pos : Timed g time) (t : ℕ) (r : Run) (h : Matches g (state r) (run g time t)) where
-    pub run_roomy : Roomy cs r
-    run_roomy c hc =
-        let whole = capacity_whole g fit.sound (run g time t) (run_balanced g fit.sound time pos t) c hc in
-        let tokens = h.alike.tokens c hc in
-        let free = h.alike.free c hc in
-        let most = fit.small c hc in
-        (omega arith, omega arith)
+-- nothing is under way where every actor that there is, or that there could be, has no ticks left
+idle_not : (l : ℕ) → l ≡ 0 → not (ltb 0 l) ≡ true
+idle_not l e = grind (arith, nat_tests)
 
-    pub run_countable : t ≤ 10_000_000 → Countable n r
-    run_countable early a ha = omega (arith, h.ended a ha, run_few g fit.sound time pos t a ha)
+not_idle : (l : ℕ) → not (ltb 0 l) ≡ true → l ≡ 0
+not_idle l e = grind (arith, nat_tests)
+
+pub still : (gr : Graph) (s : State) (b : Bool) → Vacant (net gr) s → (IsTrue b ↔ ((a : ℕ) → a < 16 → s.left a ≡ 0)) → b ≡ every (net gr).actors (λ a. not (busy s a))
+still gr s true v h =
+    sym (every_from (net gr).actors _ (λ a lt. idle_not (s.left a) (h.0 refl a (omega (arith, (graph_fitting gr).few)))))
+still gr s false v h =
+    elim (cases_Bool (every (net gr).actors (λ a. not (busy s a)))) [
+      | inl e ↦ absurd (true≢false (sym (h.1 (λ a _. ⊎_elim (λ lt. not_idle (s.left a) (every_true (net gr).actors _ e a lt)) (λ ge. (v.1 a ge).0) (cases_lt a (net gr).actors)))))
+      | inr e ↦ sym e
+    ]

@@ -1,4 +1,6 @@
 pub mod Firings
+pub mod Nets
+pub mod Standings
 pub mod Seen
 pub mod Loops
 pub mod Places

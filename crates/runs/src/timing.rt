@@ -1,5 +1,5 @@
 ghost use Rattle.std.specs.Prelude.{◌≡◌, ℕ};
-ghost use Rattle.runs.specs.Seen.{at, times_of};
+ghost use Rattle.runs.specs.Nets.{at, times_of};
 
 use graph::Graph;
 
@@ -7,10 +7,10 @@ use graph::Graph;
 pub fn times(graph: &Graph) -> [u16; 16]
     ensures { (a : ℕ) → at result a ≡ times_of graph.now a }
 {
-    let actors = graph.actors();
     let mut times = [0; 16];
-    for a in 0..actors.len() {
-        times[a] = actors[a].time;
+    let actors = graph.actors();
+    for (a, actor) in actors.iter().enumerate() {
+        times[a] = actor.time;
     }
     times
 }

@@ -1,7 +1,0 @@
-use Rattle.std.proofs.Common.{◌≡◌, ℕ, ◌<◌, length}
-use Rattle.model.specs.Net.{fallen}
-use Rattle.runs.specs.Seen.{at, state}
-use Rattle.runs.proofs.steps.one_less.Given as goal
-
-abbrev pub invariant-loop-a : goal.invariant-loop-a
-invariant-loop-a l = (length l.left ≡ 16) × ((a : ℕ) → a < l.a → at l.left a ≡ fallen (state l.run) a)

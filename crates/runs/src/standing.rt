@@ -1,0 +1,263 @@
+// What stands in a run, and what the parts of a tick make of it.
+ghost use Rattle.std.specs.Prelude.{◌≡◌, ℕ, ◌+◌, ◌-◌, ◌^◌, ◌<◌, ◌≤◌, true, false, cond, not, ◌&&◌, length, ◌==◌, nat_lt, ◌↔◌, IsTrue};
+ghost use Rattle.graph.specs.Channels.{Ends};
+ghost use Rattle.graph.specs.Meaning.{actors_in, channels_in};
+ghost use Rattle.model.specs.Likeness.{Matches};
+ghost use Rattle.model.specs.Net.{when, busy, start, ends, finish as finished, fallen, initial_state};
+ghost use Rattle.runs.specs.Firings.{left_of};
+ghost use Rattle.runs.specs.Loops.{flag, Roomy, Countable, Withheld, Marked, Takes, Taken, Begun, Served, Given};
+ghost use Rattle.runs.specs.Nets.{net, at, taken};
+ghost use Rattle.runs.specs.Places.{Within};
+ghost use Rattle.runs.specs.Standings.{state_of, Vacant};
+
+use crate::firing::{Event, Firing, ends};
+use graph::{Channel, Graph};
+
+// What a channel holds.
+#[derive(Clone, Copy)]
+pub struct Held {
+    pub tokens: u16,
+    pub free: u16,
+}
+
+// What an actor does, and how many of its firings have ended.
+#[derive(Clone, Copy)]
+pub struct Doing {
+    pub firing: Firing,
+    pub ended: u32,
+}
+
+// What stands in a run: by channel, and by actor.
+#[derive(Clone, Copy)]
+pub struct Standing {
+    pub held: [Held; 32],
+    pub doing: [Doing; 16],
+}
+
+impl Held {
+    // Nothing, as there is no channel.
+    pub const NOTHING: Held = Held { tokens: 0, free: 0 };
+
+    // The initial tokens and free places.
+    fn initial(channel: &Channel) -> Held
+        requires { channel.now.tokens ≤ channel.now.capacity }
+        ensures tokens { result.tokens ≡ channel.now.tokens }
+        ensures free { result.free ≡ channel.now.capacity - channel.now.tokens }
+    {
+        Held {
+            tokens: channel.tokens,
+            free: channel.capacity - channel.tokens,
+        }
+    }
+
+    // The marked ends of the channel take their tokens and places.
+    fn take(&mut self, channel: &Channel, go: &[bool; 16])
+        requires ends { Ends 16 channel.now }
+        requires tokens { flag go.now channel.now.dest ≡ true → channel.now.q ≤ self.old.tokens }
+        requires places { flag go.now channel.now.source ≡ true → channel.now.p ≤ self.old.free }
+        ensures tokens { self.new.tokens ≡ self.old.tokens - when (flag go.now channel.now.dest) channel.now.q }
+        ensures free { self.new.free ≡ self.old.free - when (flag go.now channel.now.source) channel.now.p }
+    {
+        if go[usize::from(channel.dest)] {
+            self.tokens -= u16::from(channel.q);
+        }
+        if go[usize::from(channel.source)] {
+            self.free -= u16::from(channel.p);
+        }
+    }
+
+    // The marked ends of the channel give their tokens and places.
+    fn give(&mut self, channel: &Channel, done: &[bool; 16])
+        requires ends { Ends 16 channel.now }
+        requires roomy { (self.old.tokens ≤ 4096) × (self.old.free ≤ 4096) }
+        ensures tokens { self.new.tokens ≡ self.old.tokens + when (flag done.now channel.now.source) channel.now.p }
+        ensures free { self.new.free ≡ self.old.free + when (flag done.now channel.now.dest) channel.now.q }
+    {
+        if done[usize::from(channel.source)] {
+            self.tokens += u16::from(channel.p);
+        }
+        if done[usize::from(channel.dest)] {
+            self.free += u16::from(channel.q);
+        }
+    }
+}
+
+impl Doing {
+    // Nothing, and no firing has ended.
+    pub const IDLE: Doing = Doing {
+        firing: Firing::Idle,
+        ended: 0,
+    };
+
+    // A firing starts.
+    fn start(&mut self, time: u16)
+        ensures left { left_of self.new.firing ≡ time }
+        ensures ended { self.new.ended ≡ self.old.ended }
+    {
+        self.firing = self.firing.after(Event::Start(time));
+    }
+
+    // The firing under way comes to the new ticks left, and is counted where it ends; whether it does.
+    fn serve(&mut self, left: u16) -> bool
+        requires { self.old.ended < 4294967295 }
+        ensures left { left_of self.new.firing ≡ cond (nat_lt 0 (left_of self.old.firing)) left 0 }
+        ensures done { result ≡ (nat_lt 0 (left_of self.old.firing) && left_of self.new.firing == 0) }
+        ensures ended { self.new.ended ≡ self.old.ended + when result 1 }
+    {
+        let was = self.firing;
+        self.firing = was.after(Event::Served(left));
+        let done = ends(was, self.firing);
+        if done {
+            self.ended += 1;
+        }
+        done
+    }
+}
+
+// Strikes out the ends of a channel that its tokens and free places hinder.
+fn withhold(channel: &Channel, held: Held, go: &mut [bool; 16])
+    requires { (Ends 16 channel.now) × (length go.old ≡ 16) }
+    ensures { Withheld channel.now held.tokens held.free go.old go.new }
+{
+    if held.tokens < u16::from(channel.q) {
+        go[usize::from(channel.dest)] = false;
+    }
+    if held.free < u16::from(channel.p) {
+        go[usize::from(channel.source)] = false;
+    }
+}
+
+impl Standing {
+    // What stands before the starts of tick 0.
+    pub fn initial(graph: &Graph) -> Standing
+        ensures begins { Matches (net graph.now) (state_of result) (initial_state (net graph.now)) }
+        ensures counts { (a : ℕ) → (state_of result).ended a ≡ 0 }
+        ensures within { Within (net graph.now) (state_of result) }
+        ensures vacant { Vacant (net graph.now) (state_of result) }
+    {
+        let channels = graph.channels();
+        let mut held = [Held::NOTHING; 32];
+        for (c, channel) in channels.iter().enumerate() {
+            held[c] = Held::initial(channel);
+        }
+        Standing {
+            held,
+            doing: [Doing::IDLE; 16],
+        }
+    }
+
+    // Marks the actors that are idle.
+    fn idle(&self, actors: usize) -> [bool; 16]
+        requires { actors ≤ 16 }
+        ensures size { length result ≡ 16 }
+        ensures are { (a : ℕ) → a < actors → flag result a ≡ not (busy (state_of self.now) a) }
+        ensures absent { (a : ℕ) → actors ≤ a → flag result a ≡ false }
+    {
+        let mut idle = [false; 16];
+        for (a, doing) in self.doing[..actors].iter().enumerate() {
+            idle[a] = doing.firing.left() == 0;
+        }
+        idle
+    }
+
+    // Marks the actors that are ready.
+    fn ready(&self, graph: &Graph) -> [bool; 16]
+        ensures { Marked (length (channels_in graph.now)) (length (actors_in graph.now)) (channels_in graph.now) (state_of self.now) result }
+    {
+        let channels = graph.channels();
+        let mut go = self.idle(graph.actors().len());
+        for (c, channel) in channels.iter().enumerate() {
+            withhold(channel, self.held[c], &mut go);
+        }
+        go
+    }
+
+    // The marked actors take their tokens and places.
+    fn take(&mut self, graph: &Graph, go: &[bool; 16])
+        requires { Takes (channels_in graph.now) go.now (state_of self.old) }
+        ensures { Taken (length (channels_in graph.now)) (channels_in graph.now) go.now (state_of self.old) (state_of self.new) }
+    {
+        let channels = graph.channels();
+        for (c, channel) in channels.iter().enumerate() {
+            self.held[c].take(channel, go);
+        }
+    }
+
+    // The marked actors have a firing under way.
+    fn begin(&mut self, times: &[u16; 16], go: &[bool; 16])
+        ensures { Begun 16 times.now go.now (state_of self.old) (state_of self.new) }
+    {
+        for (a, doing) in self.doing.iter_mut().enumerate() {
+            if go[a] {
+                doing.start(times[a]);
+            }
+        }
+    }
+
+    // Every ready actor starts once.
+    pub fn start_ready(&mut self, graph: &Graph, times: &[u16; 16])
+        ensures after { Matches (net graph.now) (state_of self.new) (start (net graph.now) (at times.now) (state_of self.old)) }
+        ensures counts { (a : ℕ) → (state_of self.new).ended a ≡ (state_of self.old).ended a }
+        ensures within { Within (net graph.now) (state_of self.old) → Within (net graph.now) (state_of self.new) }
+        ensures vacant { Vacant (net graph.now) (state_of self.old) → Vacant (net graph.now) (state_of self.new) }
+    {
+        let go = self.ready(graph);
+        self.take(graph, &go);
+        self.begin(times, &go);
+    }
+
+    // Each firing under way comes to the new ticks left, and those that come to 0 are counted; marks these.
+    fn serve(&mut self, left: &[u16; 16]) -> [bool; 16]
+        requires { Countable (state_of self.old) }
+        ensures { Served 16 left.now (state_of self.old) (state_of self.new) result }
+    {
+        let mut done = [false; 16];
+        for (a, doing) in self.doing.iter_mut().enumerate() {
+            done[a] = doing.serve(left[a]);
+        }
+        done
+    }
+
+    // The firings done give their tokens and places.
+    fn give(&mut self, graph: &Graph, done: &[bool; 16])
+        requires { Roomy (channels_in graph.now) (state_of self.old) }
+        ensures { Given (length (channels_in graph.now)) (channels_in graph.now) done.now (state_of self.old) (state_of self.new) }
+    {
+        let channels = graph.channels();
+        for (c, channel) in channels.iter().enumerate() {
+            self.held[c].give(channel, done);
+        }
+    }
+
+    // The firings under way come to the new ticks left, and those that come to 0 end; marks these.
+    pub fn finish(&mut self, graph: &Graph, left: &[u16; 16]) -> [bool; 16]
+        requires within { Within (net graph.now) (state_of self.old) }
+        requires countable { Countable (state_of self.old) }
+        ensures size { length result ≡ 16 }
+        ensures done { (a : ℕ) → a < (net graph.now).actors → flag result a ≡ ends (state_of self.old) (taken (state_of self.old) (at left.now)) a }
+        ensures after { Matches (net graph.now) (state_of self.new) (finished (net graph.now) (taken (state_of self.old) (at left.now)) (state_of self.old)) }
+        ensures counts { (a : ℕ) → (state_of self.new).ended a ≤ (state_of self.old).ended a + 1 }
+        ensures within { Within (net graph.now) (state_of self.new) }
+        ensures vacant { Vacant (net graph.now) (state_of self.old) → Vacant (net graph.now) (state_of self.new) }
+    {
+        let done = self.serve(left);
+        self.give(graph, &done);
+        done
+    }
+
+    // One tick less for each firing under way.
+    pub fn one_less(&self) -> [u16; 16]
+        ensures size { length result ≡ 16 }
+        ensures value { (a : ℕ) → a < 16 → at result a ≡ fallen (state_of self.now) a }
+    {
+        self.doing
+            .map(|doing| doing.firing.left().saturating_sub(1))
+    }
+
+    // Whether nothing is under way.
+    pub fn is_still(&self) -> bool
+        ensures { IsTrue result ↔ ((a : ℕ) → a < 16 → (state_of self.now).left a ≡ 0) }
+    {
+        self.doing.iter().all(|doing| doing.firing.left() == 0)
+    }
+}
