@@ -3,12 +3,16 @@ use Rattle.std.proofs.Common.{◌≡◌, ℕ, ◌+◌, ◌-◌, ◌%◌, ◌<◌
 use Rattle.std.proofs.lemmas.List.{length_push}
 use Rattle.std.proofs.lemmas.Bool.{cases_Bool}
 use Rattle.std.proofs.lemmas.Bool.Decides.{nat_tests}
-use Rattle.model.specs.Net.{Net, State, when, every, busy, ends, fallen, run}
+use Rattle.model.specs.Net.{Net, State, when, every, busy, ends, fallen, next, run}
 use Rattle.model.specs.Likeness.{Matches}
 use Rattle.model.specs.Rate.{Answer, standstill, repeats, no_row, late, on, takes_row, answers, still, sample_due, says, rated, rate_of}
 use Rattle.model.proofs.Every.{every_same}
 use Rattle.model.proofs.Verdicts.{same_at, says_standstill, says_on, says_repeats, says_takes_row, says_no_row, due_later}
 use Rattle.model.proofs.Steps.{step_first, step_on, step_takes_row, step_last, step_last_row, rated_answers}
+use Rattle.model.proofs.Alikes.{next_matches}
+use Rattle.graph.specs.declared.graph.Graph.{Graph}
+use Rattle.runs.specs.Seen.{net, at, reps_of}
+use Rattle.runs.proofs.Graphs.{graph_some, graph_fitting}
 use Rattle.rates.specs.declared.fault.Fault.{Fault}
 use Rattle.rates.specs.declared.fault.Fault.TheVariants.{Works, NoRow, LastTick, Absent}
 use Rattle.rates.specs.declared.rate.Rate.{Rate}
@@ -50,9 +54,10 @@ pub record Done (n : Net) (time : ℕ → ℕ) (rep : ℕ) (before : List Sample
   pub same : rows' ≡ rows
 
 -- what a tick that goes on, or one that answers, comes to
-abbrev pub Comes : (n : Net) (time : ℕ → ℕ) (rep : ℕ) (before : List Sample) (t : ℕ) (rows rows' : List Sample) (used' : ℕ) (taken : List ℕ) → Option (Result Rate Fault) → Type 0
-Comes n time rep before t rows rows' used' taken None = On n time rep before t rows' used' taken
-Comes n time rep before t rows rows' used' taken (Some r) = Done n time rep before t rows rows' taken r
+abbrev pub Comes : (n : Net) (time : ℕ → ℕ) (rep : ℕ) (before : List Sample) (t : ℕ) (rows rows' : List Sample) (used' : ℕ) (taken : List ℕ) → Result (Option Rate) Fault → Type 0
+Comes n time rep before t rows rows' used' taken (Ok None) = On n time rep before t rows' used' taken
+Comes n time rep before t rows rows' used' taken (Ok (Some r)) = Done n time rep before t rows rows' taken (Ok r)
+Comes n time rep before t rows rows' used' taken (Err f) = Done n time rep before t rows rows' taken (Err f)
 
 module _ (n : Net) (time : ℕ → ℕ) (rep : ℕ) (before : List Sample) (fit : (n.actors ≤ 16) × (n.channels ≤ 32)) where
   abbrev room : ℕ
@@ -75,7 +80,7 @@ module _ (n : Net) (time : ℕ → ℕ) (rep : ℕ) (before : List Sample) (fit 
 
     module _ (s : State) (m : Matches n s (run n time t)) where
       row : Sample
-      row = row_of n.actors n.channels s t
+      row = row_of n s t
 
       compared : (i : ℕ) → i < length taken → same_row (get_or rows i row) row ≡ same_at n time t taken i
       unfolding row
@@ -88,7 +93,7 @@ module _ (n : Net) (time : ℕ → ℕ) (rep : ℕ) (before : List Sample) (fit 
 
       module _ (live : still n (run n time t) ≡ false) (due : sample_due n time rep t ≡ true) where
         takes : (rows' : List Sample) (used' : ℕ) → (Rising rows used → Rising rows' used') →
-            SampledIs rows used row rows' used' None → On n time rep before t rows' used' taken
+            SampledIs rows used row rows' used' (Ok None) → On n time rep before t rows' used' taken
         unfolding row
         takes rows' used' rising (spare, new, is, more) =
             let long : length rows ≡ length before = ap length k.rows ∙ length-leaves n time taken before k.room in
@@ -106,20 +111,22 @@ module _ (n : Net) (time : ℕ → ℕ) (rep : ℕ) (before : List Sample) (fit 
               said = inr (says_takes_row n time rep room t taken live due (none new) lt, refl);
             }
 
-        sampled : (rows' : List Sample) (used' : ℕ) (r : Result Rate Fault) → SampledIs rows used row rows' used' (Some r) → Done n time rep before t rows rows' taken r
+        sampled : (rows' : List Sample) (used' : ℕ) (r : Result (Option Rate) Fault) → (Rising rows used → Rising rows' used') →
+            SampledIs rows used row rows' used' r → Comes n time rep before t rows rows' used' taken r
         unfolding row
-        sampled rows' used' (Ok (Standstill f)) h = absurd h
-        sampled rows' used' (Err LastTick) h = absurd h
-        sampled rows' used' (Err (Works a)) h = absurd h
-        sampled rows' used' (Err Absent) h = absurd h
-        sampled rows' used' (Err NoRow) (full, new, is, _) = record {
+        sampled rows' used' (Ok None) rising h = takes rows' used' rising h
+        sampled rows' used' (Ok (Some (Standstill f))) rising h = absurd h
+        sampled rows' used' (Err LastTick) rising h = absurd h
+        sampled rows' used' (Err (Works a)) rising h = absurd h
+        sampled rows' used' (Err Absent) rising h = absurd h
+        sampled rows' used' (Err NoRow) rising (full, new, is, _) = record {
           answer = no_row;
           said = says_no_row n time rep room t taken live due (none new)
               (let long : length rows ≡ length before = ap length k.rows ∙ length-leaves n time taken before k.room in omega (arith, k.used));
           is = refl;
           same = is;
         }
-        sampled rows' used' (Ok (Repeats f d m')) (r, (lt, is, first), ef, ed, em, same, _) =
+        sampled rows' used' (Ok (Some (Repeats f d m'))) rising (r, (lt, is, first), ef, ed, em, same, _) =
             let in_taken : r < length taken = omega (arith, k.used) in
             let tick : f ≡ get_or taken r 0 = ef ∙ ap (λ x. x.tick) (ap (λ xs. get_or xs r row) k.rows ∙ taken_row n time taken before r row in_taken) in
             record {
@@ -130,9 +137,9 @@ module _ (n : Net) (time : ℕ → ℕ) (rep : ℕ) (before : List Sample) (fit 
               same = same;
             }
 
-      comes : (due : Bool) → due ≡ sample_due n time rep t → (rows' : List Sample) (used' : ℕ) (r : Option (Result Rate Fault)) →
+      comes : (due : Bool) → due ≡ sample_due n time rep t → (rows' : List Sample) (used' : ℕ) (r : Result (Option Rate) Fault) →
           (Rising rows used → Rising rows' used') →
-          Judged n.actors n.channels s due t rows used rows' used' r → Comes n time rep before t rows rows' used' taken r
+          Judged n s due t rows used rows' used' r → Comes n time rep before t rows rows' used' taken r
       unfolding row
       comes due d rows' used' r rising j = elim (cases_Bool (every n.actors (λ a. not (busy s a)))) [
         | inl stop ↦ let (is, same, u) = j.still stop in
@@ -142,14 +149,9 @@ module _ (n : Net) (time : ℕ → ℕ) (rep : ℕ) (before : List Sample) (fit 
           | inr off ↦ let (is, same, u) = j.on live off in
               subst (Comes n time rep before t rows rows' used' taken) (sym is)
               (record { taken' = taken; kept = stays rows' used' same u; said = inl (says_on n time rep room t taken (sym (still_is s (run n time t) m) ∙ live) (sym d ∙ off), refl) })
-          | inl is-due ↦ by r (sym (still_is s (run n time t) m) ∙ live) (sym d ∙ is-due) (j.sampled live is-due)
+          | inl is-due ↦ sampled (sym (still_is s (run n time t) m) ∙ live) (sym d ∙ is-due) rows' used' r rising (j.sampled live is-due)
         ]
       ]
-        where
-          by : (r : Option (Result Rate Fault)) → still n (run n time t) ≡ false → sample_due n time rep t ≡ true →
-              SampledIs rows used (row_of n.actors n.channels s t) rows' used' r → Comes n time rep before t rows rows' used' taken r
-          by None live due h = takes live due rows' used' rising h
-          by (Some r) live due h = sampled live due rows' used' r h
 
   pub begins : {s : State} → Matches n s (run n time 0) → Going n time rep before 0 s true before 0
   begins m = record {
@@ -163,9 +165,9 @@ module _ (n : Net) (time : ℕ → ℕ) (rep : ℕ) (before : List Sample) (fit 
 
 module _ {n : Net} {time : ℕ → ℕ} {rep : ℕ} {before : List Sample} (fit : (n.actors ≤ 16) × (n.channels ≤ 32)) {t : ℕ} {s : State} {due : Bool} {rows : List Sample} {used : ℕ}
     (g : Going n time rep before t s due rows used) where
-  pub judged_comes : {rows' : List Sample} {used' : ℕ} {r : Option (Result Rate Fault)} →
+  pub judged_comes : {rows' : List Sample} {used' : ℕ} {r : Result (Option Rate) Fault} →
       (Rising rows used → Rising rows' used') →
-      Judged n.actors n.channels s due t rows used rows' used' r → Comes n time rep before t rows rows' used' g.taken r
+      Judged n s due t rows used rows' used' r → Comes n time rep before t rows rows' used' g.taken r
   judged_comes {rows'} {used'} {r} = comes n time rep before fit t rows used g.taken g.kept s g.state due g.due rows' used' r
 
   pub answers_so : {rows' : List Sample} {r : Result Rate Fault} → Done n time rep before t rows rows' g.taken r → Rated n time rep before rows' r
@@ -219,6 +221,29 @@ due_next n time rep t {s} {z} some m m' =
     let up : ltb ((run n time t).ended 0) ((run n time (t + 1)).ended 0) ≡ ends (run n time t) (fallen (run n time t)) 0 =
     rw add-one (up_one (ends (run n time t) (fallen (run n time t)) 0) ((run n time t).ended 0)) in
     ap₂ (λ x e. x && eqb (e % rep) 0) (same ∙ sym up) (m'.ended 0 some) ∙ sym (due_later n time rep t)
+
+-- the run of a graph with a table of times
+module _ (gr : Graph) (times : List ℕ) where
+  pub graph_begins : {before : List Sample} {t : ℕ} {s : State} {used : ℕ} → t ≡ 0 → used ≡ 0 → Matches (net gr) s (run (net gr) (at times) 0) →
+      Going (net gr) (at times) (reps_of gr 0) before t s true before used
+  graph_begins {before} e f m = rw (e, f) (begins (net gr) (at times) (reps_of gr 0) before (graph_fitting gr).few m)
+
+  module _ {before : List Sample} {t : ℕ} {s : State} {due : Bool} {rows : List Sample} {used : ℕ} (g : Going (net gr) (at times) (reps_of gr 0) before t s due rows used) where
+    pub graph_comes : {x : Graph} {rows' : List Sample} {used' : ℕ} {r : Result (Option Rate) Fault} → x ≡ gr →
+        (Rising rows used → Rising rows' used') → Judged (net x) s due t rows used rows' used' r →
+        Comes (net gr) (at times) (reps_of gr 0) before t rows rows' used' g.taken r
+    graph_comes {x} {rows'} {used'} {r} e rising j =
+        judged_comes (graph_fitting gr).few g rising (subst (λ (x : Graph). Judged (net x) s due t rows used rows' used' r) e j)
+
+    pub graph_goes_on : {x : Graph} {ts : List ℕ} {z : State} {t' : ℕ} {done due' : Bool} {rows' : List Sample} {used' : ℕ} → (t ≡ last_tick → ⊥) →
+        On (net gr) (at times) (reps_of gr 0) before t rows' used' g.taken → x ≡ gr → ts ≡ times → t' ≡ t + 1 → done ≡ ends s (fallen s) 0 →
+        Matches (net x) z (next (net x) (at ts) s) → due' ≡ (done && eqb (z.ended 0 % reps_of gr 0) 0) →
+        Going (net gr) (at times) (reps_of gr 0) before t' z due' rows' used'
+    graph_goes_on {x} {ts} {z} not_last o e f u d h due-is =
+        let m = next_matches (net gr) (graph_fitting gr).sound (at times) s z t
+        (subst (λ (x : Graph). Matches (net x) z (next (net x) (at times) s)) e (subst (λ (ts : List ℕ). Matches (net x) z (next (net x) (at ts) s)) f h)) g.state in
+        rw u (goes_on (graph_fitting gr).few g not_last o m
+        (due-is ∙ (ap (λ b. b && eqb (z.ended 0 % reps_of gr 0) 0) d ∙ due_next (net gr) (at times) (reps_of gr 0) t (graph_some gr) g.state m)))
 
 -- tables that agree have one outcome
 pub rated_as : {n : Net} {time time' : ℕ → ℕ} {rep : ℕ} {rows rows' : List Sample} {r : Result Rate Fault} → ((a : ℕ) → time a ≡ time' a) →

@@ -30,11 +30,11 @@ module _ (size k : ℕ) (f g : ℕ → ℕ) (fits : k ≤ size) where
   )
 
 module _ (n : Net) (time : ℕ → ℕ) (few : (n.actors ≤ 16) × (n.channels ≤ 32)) where
-  pub same_row_lem : (s z : State) (t u : ℕ) → same_row (row_of n.actors n.channels s t) (row_of n.actors n.channels z u) ≡ same n s z
+  pub same_row_lem : (s z : State) (t u : ℕ) → same_row (row_of n s t) (row_of n z u) ≡ same n s z
   same_row_lem s z t u = ap₂ ◌&&◌ (same_listed 32 n.channels s.tokens z.tokens few.1) (same_listed 16 n.actors s.left z.left few.0)
 
   -- a state that matches the run has its row
-  pub row_is : (s : State) (t : ℕ) → Matches n s (run n time t) → row_of n.actors n.channels s t ≡ row_at n time t
+  pub row_is : (s : State) (t : ℕ) → Matches n s (run n time t) → row_of n s t ≡ row_at n time t
   row_is s t h = ap₂ (λ x y. record { tokens = x; left = y; tick = t })
       (listed_same 32 n.channels _ _ h.alike.tokens) (listed_same 16 n.actors _ _ h.alike.left)
 

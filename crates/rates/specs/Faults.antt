@@ -4,10 +4,7 @@ use Rattle.rates.specs.declared.fault.Fault.{Fault}
 use Rattle.rates.specs.declared.fault.Fault.TheVariants.{Works, NoRow, LastTick, Absent}
 
 abbrev pub layer_of : Fault → List ℕ
-layer_of (Works a) = codes "bench"
-layer_of NoRow = codes "bench"
-layer_of LastTick = codes "bench"
-layer_of Absent = codes "bench"
+layer_of f = codes "bench"
 
 abbrev pub number_of : Fault → ℕ
 number_of (Works a) = 16

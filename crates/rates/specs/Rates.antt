@@ -47,18 +47,18 @@ abbrev pub Unbeaten : Graph → Type 0
 Unbeaten g = (s : Schedule) → Allowed (net g) (times_of g) s → (a k : ℕ) → a < (net g).actors → s.has a k ≡ true → k + 1 ≤ (run (net g) (times_of g) (s.end a k)).ended a
 
 -- with the first n rows of xs taken before, and the first m of ys after: it takes a row, or its answer is one of two
-abbrev pub SampledIs : List Sample → ℕ → Sample → List Sample → ℕ → Option (Result Rate Fault) → Type 0
-SampledIs xs n x ys m None = (n < length xs) × FirstIs same_row xs n x None × (ys ≡ slice_set xs n x) × (m ≡ n + 1)
-SampledIs xs n x ys m (Some (Ok (Repeats f d k))) =
+abbrev pub SampledIs : List Sample → ℕ → Sample → List Sample → ℕ → Result (Option Rate) Fault → Type 0
+SampledIs xs n x ys m (Ok None) = (n < length xs) × FirstIs same_row xs n x None × (ys ≡ slice_set xs n x) × (m ≡ n + 1)
+SampledIs xs n x ys m (Ok (Some (Repeats f d k))) =
     (r : ℕ) × FirstIs same_row xs n x (Some r) × (f ≡ (slice_index_or xs r x).tick) × (d ≡ x.tick - f) × (k ≡ n - r) × (ys ≡ xs) × (m ≡ n)
-SampledIs xs n x ys m (Some (Ok (Standstill f))) = ⊥
-SampledIs xs n x ys m (Some (Err NoRow)) = (length xs ≤ n) × FirstIs same_row xs n x None × (ys ≡ xs) × (m ≡ n)
-SampledIs xs n x ys m (Some (Err LastTick)) = ⊥
-SampledIs xs n x ys m (Some (Err (Works a))) = ⊥
-SampledIs xs n x ys m (Some (Err Absent)) = ⊥
+SampledIs xs n x ys m (Ok (Some (Standstill f))) = ⊥
+SampledIs xs n x ys m (Err NoRow) = (length xs ≤ n) × FirstIs same_row xs n x None × (ys ≡ xs) × (m ≡ n)
+SampledIs xs n x ys m (Err LastTick) = ⊥
+SampledIs xs n x ys m (Err (Works a)) = ⊥
+SampledIs xs n x ys m (Err Absent) = ⊥
 
 -- standstill first, then the sample, if it is due
-pub record Judged (actors channels : ℕ) (s : State) (due : Bool) (t : ℕ) (xs : List Sample) (n : ℕ) (ys : List Sample) (m : ℕ) (r : Option (Result Rate Fault)) : Type 0 where
-  pub still : every actors (λ a. not (busy s a)) ≡ true → (r ≡ Some (Ok (Standstill t))) × (ys ≡ xs) × (m ≡ n)
-  pub on : every actors (λ a. not (busy s a)) ≡ false → due ≡ false → (r ≡ None) × (ys ≡ xs) × (m ≡ n)
-  pub sampled : every actors (λ a. not (busy s a)) ≡ false → due ≡ true → SampledIs xs n (row_of actors channels s t) ys m r
+pub record Judged (n : Net) (s : State) (due : Bool) (t : ℕ) (xs : List Sample) (used : ℕ) (ys : List Sample) (m : ℕ) (r : Result (Option Rate) Fault) : Type 0 where
+  pub still : every n.actors (λ a. not (busy s a)) ≡ true → (r ≡ Ok (Some (Standstill t))) × (ys ≡ xs) × (m ≡ used)
+  pub on : every n.actors (λ a. not (busy s a)) ≡ false → due ≡ false → (r ≡ Ok None) × (ys ≡ xs) × (m ≡ used)
+  pub sampled : every n.actors (λ a. not (busy s a)) ≡ false → due ≡ true → SampledIs xs used (row_of n s t) ys m r

@@ -4,7 +4,7 @@
 -- Rising    the ticks of the first rows never fall from row to row
 -- Upto      and none of them is after a tick
 -- listed    a table's first numbers, then zeros, as a list of some size
--- row_of    the row of a state at a tick
+-- row_of    the row of a net's state at a tick
 -- row_at    the row of a run at a tick
 -- leaves    the rows of the ticks taken, then the rows that stay
 use Rattle.std.specs.Prelude.{ℕ, Bool, ◌&&◌, List, ◌++◌, map, length, drop, nat_lt}
@@ -26,11 +26,11 @@ Upto t rows n = Tops {X = Sample} (λ r. r.tick) rows n t
 unfoldable pub listed : ℕ → ℕ → (ℕ → ℕ) → List ℕ
 listed size k f = map (λ i. when (nat_lt i k) (f i)) (range_with_len 0 size)
 
-abbrev pub row_of : ℕ → ℕ → State → ℕ → Sample
-row_of actors channels s t = record { tokens = listed 32 channels s.tokens; left = listed 16 actors s.left; tick = t }
+abbrev pub row_of : Net → State → ℕ → Sample
+row_of n s t = record { tokens = listed 32 n.channels s.tokens; left = listed 16 n.actors s.left; tick = t }
 
 abbrev pub row_at : Net → (ℕ → ℕ) → ℕ → Sample
-row_at n time t = row_of n.actors n.channels (run n time t) t
+row_at n time t = row_of n (run n time t) t
 
 abbrev pub leaves : Net → (ℕ → ℕ) → List ℕ → List Sample → List Sample
 leaves n time taken rows = map (row_at n time) taken ++ drop (length taken) rows

@@ -2,7 +2,7 @@ ghost use Rattle.std.specs.Prelude.{◌≡◌};
 ghost use Rattle.rates.specs.Faults.{layer_of, number_of, place_of};
 
 // Why a bench or rate has no answer to give.
-#[derive(Clone, Copy)]
+#[derive(Clone, Copy, PartialEq, Eq, Debug)]
 pub enum Fault {
     // Works differ from times, or in number, with the lowest actor concerned.
     Works(u8),
@@ -15,16 +15,11 @@ pub enum Fault {
 }
 
 impl Fault {
-    // The layer that found the fault.
+    // The layer that finds these faults.
     pub fn layer(self) -> &'static str
         ensures { result.now ≡ layer_of self }
     {
-        match self {
-            Fault::Works(_) => "bench",
-            Fault::NoRow => "bench",
-            Fault::LastTick => "bench",
-            Fault::Absent => "bench",
-        }
+        "bench"
     }
 
     // The number of the refusal.
@@ -45,9 +40,7 @@ impl Fault {
     {
         match self {
             Fault::Works(actor) => actor,
-            Fault::NoRow => 0,
-            Fault::LastTick => 0,
-            Fault::Absent => 0,
+            Fault::NoRow | Fault::LastTick | Fault::Absent => 0,
         }
     }
 }

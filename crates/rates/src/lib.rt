@@ -6,7 +6,6 @@ mod fault;
 mod promised;
 mod rate;
 mod sample;
-mod sampling;
 
 pub use agreement::lowest_differing;
 pub use fault::Fault;

@@ -9,16 +9,13 @@ use crate::rate::{Rate, rate_with};
 use crate::sample::Sample;
 use graph::Graph;
 use policy::Policy;
+use std::array::from_fn;
 
 // The policy's promises, by actor.
 fn promises<P: Policy>(policy: &P) -> [u16; 16]
     ensures { (a : ℕ) → at result a ≡ (P.Policy.view policy.now).promise a }
 {
-    let mut promises = [0; 16];
-    for a in 0..16u8 {
-        promises[a as usize] = policy.promise(a);
-    }
-    promises
+    from_fn(|a| policy.promise(a as u8))
 }
 
 // The rate of the run with the policy's promises for times, with the caller's rows for its samples.
@@ -32,5 +29,5 @@ pub fn promised_rate<P: Policy>(
     if let Some(a) = lowest_differing(graph, policy) {
         return Err(Fault::Works(a));
     }
-    rate_with(graph, &promises(policy), rows)
+    rate_with(graph, promises(policy), rows)
 }

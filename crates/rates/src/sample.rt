@@ -1,12 +1,14 @@
 // Rows of the tokens and ticks left of a run.
 ghost use Rattle.std.specs.Prelude.{◌≡◌};
-ghost use Rattle.std.specs.Str.{bytes_eq as same_numbers};
-ghost use Rattle.rates.specs.Rows.{same_row};
+ghost use Rattle.runs.specs.Seen.{net, state};
+ghost use Rattle.rates.specs.Rows.{same_row, row_of};
 
+use runs::Run;
+use std::array::from_fn;
 use table::Record;
 
 // What stood at a tick: the tokens by channel and the ticks left by actor, zeros after those of the graph.
-#[derive(Clone, Copy)]
+#[derive(Clone, Copy, PartialEq, Eq, Debug)]
 pub struct Sample {
     pub tokens: [u16; 32],
     pub left: [u16; 16],
@@ -22,11 +24,17 @@ impl Sample {
     };
 }
 
-// Whether two rows of numbers are the same.
-fn equal(a: &[u16], b: &[u16]) -> bool
-    ensures { result ≡ same_numbers a.now b.now }
-{
-    a == b
+impl From<&Run<'_>> for Sample {
+    ghost from_gives = { λ run row. row ≡ row_of (net run.now.graph.now) (state run.now) run.now.tick };
+
+    // What stands in a run.
+    fn from(run: &Run<'_>) -> Sample {
+        Sample {
+            tokens: from_fn(|c| run.tokens(c)),
+            left: from_fn(|a| run.left(a)),
+            tick: run.tick(),
+        }
+    }
 }
 
 impl Record for Sample {
@@ -35,7 +43,7 @@ impl Record for Sample {
     ghost stamped = { λ a. a.tick };
 
     fn same(&self, other: &Sample) -> bool {
-        equal(&self.tokens[..], &other.tokens[..]) && equal(&self.left[..], &other.left[..])
+        self.tokens == other.tokens && self.left == other.left
     }
 
     fn stamp(&self) -> u32 {

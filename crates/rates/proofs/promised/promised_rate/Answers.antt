@@ -1,4 +1,4 @@
-use Rattle.std.proofs.Common.{length, arith}
+use Rattle.std.proofs.Common.{length}
 use Rattle.model.proofs.Rates.{rate_holds}
 use Rattle.runs.specs.Seen.{net, times_of, reps_of}
 use Rattle.runs.proofs.Graphs.{graph_accepted, graph_timed}
@@ -6,13 +6,6 @@ use Rattle.rates.specs.Rates.{last_tick}
 use Rattle.rates.proofs.Agreements.{promised_timed}
 use Rattle.rates.proofs.Going.{rated_as}
 use Rattle.rates.proofs.promised.promised_rate.Goals as goal
-
-pub rate_with-requires : goal.rate_with-requires
-rate_with-requires g c a ha =
-    let gr = c.args.graph.now in
-    let p = c.args.policy.now in
-    let pos = promised_timed (net gr) (times_of gr) (g.P.Policy.view p) (graph_timed gr) (g.met.P.Policy.sound p) c.in_default.ensures in
-    omega (arith, c.promises.ensures a, pos a ha)
 
 pub returns : goal.returns
 returns g c =
