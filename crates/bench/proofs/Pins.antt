@@ -1,5 +1,5 @@
 -- The answers of a story follow from graph, policy and calls, where each call of the policy has one outcome. Assumes nothing.
-use Rattle.std.proofs.Common.{◌≡◌, ℕ, zero, suc, ◌+◌, ◌<◌, ◌≤◌, Bool, true, false, cond, ◌&&◌, eqb, ltb, ◌⊎◌, sym, refl, ap, ◌∙◌, subst, ap₂, inl, inr, arith}
+use Rattle.std.proofs.Common.{◌≡◌, ℕ, zero, suc, ◌+◌, ◌<◌, ◌≤◌, Bool, true, false, cond, ◌&&◌, eqb, ltb, Ok, Err, Result, ◌⊎◌, sym, refl, ap, ◌∙◌, subst, ap₂, inl, inr, arith}
 use Rattle.std.proofs.lemmas.Bool.{cases_eq, cases_Bool}
 use Rattle.policy.specs.declared.meaning.Policy.{Ghosts}
 use Rattle.policy.specs.Meaning.{Alike as AlikeViews, layable}
@@ -7,12 +7,13 @@ use Rattle.model.specs.Net.{Net, Sound, State, ready, ends, finish, initial_stat
 use Rattle.model.specs.Likeness.{Matches}
 use Rattle.model.proofs.Alikes.{ready_alike, finish_alike, tick_matches}
 use Rattle.runs.specs.Seen.{taken}
+use Rattle.rates.specs.declared.fault.Fault.{Fault}
 use Rattle.rates.specs.declared.fault.Fault.TheVariants.{LastTick, Absent}
 use Rattle.rates.specs.Rates.{last_tick}
 use Rattle.bench.specs.declared.call.Call.{Call}
 use Rattle.bench.specs.declared.call.Call.TheVariants.{Tick, Count, Tokens, Due, Restart}
 use Rattle.bench.specs.declared.call.Answer.{Answer}
-use Rattle.bench.specs.declared.call.Answer.TheVariants.{Ticked, Counted, Held, Owed, Restarted, Refused}
+use Rattle.bench.specs.declared.call.Answer.TheVariants.{Ticked, Counted, Held, Owed, Restarted}
 use Rattle.bench.specs.Sharing.{Stand, Asked, Lays, Begins, Ticks, ended_now}
 use Rattle.bench.specs.Story.{Serves, Does, ticked, late, counted, no_count, held, no_tokens, owed, no_due, restarted, Story, joined, called}
 use Rattle.bench.proofs.Sharings.{many_same}
@@ -95,24 +96,24 @@ module _ {X : Type 0} (m : Ghosts X) (like : X → X → Type 0) (one : OneOutco
       ended_same = many_same (ends b.state lb) (ends d.state ld) n.actors (λ a ha. ap₂ (λ u v. ltb 0 u && eqb v 0) (s.state.alike.left a ha) (left_same a ha))
 
     -- a question of a, where k are there, and f says what each has
-    abbrev Asks : (ℕ → Answer) → ℕ → (ℕ → ℕ) → ℕ → Answer → Type 0
-    Asks answer k f a r = ((a < k) × (r ≡ answer (f a))) ⊎ ((k ≤ a) × (r ≡ Refused Absent))
+    abbrev Asks : (ℕ → Answer) → ℕ → (ℕ → ℕ) → ℕ → Result Answer Fault → Type 0
+    Asks answer k f a r = ((a < k) × (r ≡ Ok (answer (f a)))) ⊎ ((k ≤ a) × (r ≡ Err Absent))
 
-    asks_same : (answer : ℕ → Answer) (k : ℕ) (f g : ℕ → ℕ) (a : ℕ) (r r' : Answer) → (a < k → f a ≡ g a) → Asks answer k f a r → Asks answer k g a r' → r ≡ r'
-    asks_same answer k f g a r r' e (inl x) (inl y) = x.1 ∙ (ap answer (e x.0) ∙ sym y.1)
+    asks_same : (answer : ℕ → Answer) (k : ℕ) (f g : ℕ → ℕ) (a : ℕ) (r r' : Result Answer Fault) → (a < k → f a ≡ g a) → Asks answer k f a r → Asks answer k g a r' → r ≡ r'
+    asks_same answer k f g a r r' e (inl x) (inl y) = x.1 ∙ (ap (λ v. Ok (answer v)) (e x.0) ∙ sym y.1)
     asks_same answer k f g a r r' e (inl x) (inr y) = absurd (omega (arith, x.0, y.0))
     asks_same answer k f g a r r' e (inr x) (inl y) = absurd (omega (arith, x.0, y.0))
     asks_same answer k f g a r r' e (inr x) (inr y) = x.1 ∙ sym y.1
 
-    abbrev ByCall : Stand X → Call → Answer → Stand X → Type 0
-    ByCall b Tick r z = ((q : X) × (b.tick < last_tick) × Ticks m n time b q z × (r ≡ Ticked z.tick (ended_now m n b.state q)))
-        ⊎ ((b.tick ≡ last_tick) × (r ≡ Refused LastTick) × (z ≡ b))
+    abbrev ByCall : Stand X → Call → Result Answer Fault → Stand X → Type 0
+    ByCall b Tick r z = ((q : X) × (b.tick < last_tick) × Ticks m n time b q z × (r ≡ Ok (Ticked z.tick (ended_now m n b.state q))))
+        ⊎ ((b.tick ≡ last_tick) × (r ≡ Err LastTick) × (z ≡ b))
     ByCall b (Count a) r z = Asks Counted n.actors b.state.ended a r × (z ≡ b)
     ByCall b (Tokens c) r z = Asks Held n.channels b.state.tokens c r × (z ≡ b)
     ByCall b (Due a) r z = Asks Owed n.actors (m.view b.policy).due a r × (z ≡ b)
-    ByCall b Restart r z = (r ≡ Restarted) × Begins m n time b.policy z
+    ByCall b Restart r z = (r ≡ Ok Restarted) × Begins m n time b.policy z
 
-    by_call : (b : Stand X) (h : Serves X) {c : Call} {r : Answer} {z : Stand X} {h' : Serves X} → Does m n time b h c r z h' → ByCall b c r z
+    by_call : (b : Stand X) (h : Serves X) {c : Call} {r : Result Answer Fault} {z : Stand X} {h' : Serves X} → Does m n time b h c r z h' → ByCall b c r z
     by_call b h (ticked q z lt t) = inl (q, lt, t, refl)
     by_call b h (late e) = inr (e, refl, refl)
     by_call b h (counted a e) = (inl (e, refl), refl)
@@ -126,10 +127,10 @@ module _ {X : Type 0} (m : Ghosts X) (like : X → X → Type 0) (one : OneOutco
     stay : (b d z w : Stand X) → SameStand n like b d → z ≡ b → w ≡ d → SameStand n like z w
     stay b d z w s x y = subst (λ (v : Stand X). SameStand n like v w) (sym x) (subst (λ (v : Stand X). SameStand n like b v) (sym y) s)
 
-    by_same : (c : Call) (b d : Stand X) (r r' : Answer) (z w : Stand X) → SameStand n like b d → ByCall b c r z → ByCall d c r' w → (r ≡ r') × SameStand n like z w
+    by_same : (c : Call) (b d : Stand X) (r r' : Result Answer Fault) (z w : Stand X) → SameStand n like b d → ByCall b c r z → ByCall d c r' w → (r ≡ r') × SameStand n like z w
     by_same Tick b d r r' z w s (inl x) (inl y) =
         let t = ticks_same b d x.0 y.0 z w s x.2 y.2 in
-        (x.3 ∙ (ap₂ Ticked t.tick (ended_same b d x.0 y.0 z w s x.2 y.2) ∙ sym y.3), t)
+        (x.3 ∙ (ap₂ (λ u v. Ok (Ticked u v)) t.tick (ended_same b d x.0 y.0 z w s x.2 y.2) ∙ sym y.3), t)
     by_same Tick b d r r' z w s (inl x) (inr y) = absurd (omega (arith, s.tick, x.1, y.0))
     by_same Tick b d r r' z w s (inr x) (inl y) = absurd (omega (arith, s.tick, x.0, y.1))
     by_same Tick b d r r' z w s (inr x) (inr y) = (x.1 ∙ sym y.1, stay b d z w s x.2 y.2)
@@ -140,15 +141,15 @@ module _ {X : Type 0} (m : Ghosts X) (like : X → X → Type 0) (one : OneOutco
     by_same Restart b d r r' z w s x y = (x.0 ∙ sym y.0, begins_same b.policy d.policy z w s.policy x.1 y.1)
 
     -- a story by its number of calls
-    abbrev Reached : X → (ℕ → Call) → (ℕ → Answer) → ℕ → Stand X → Type 0
+    abbrev Reached : X → (ℕ → Call) → (ℕ → Result Answer Fault) → ℕ → Stand X → Type 0
     Reached p call r zero z = Begins m n time p z
     Reached p call r (suc k) z = (b : Stand X) × Reached p call r k b × ByCall b (call k) (r k) z
 
-    reached : (p : X) (call : ℕ → Call) (r : ℕ → Answer) {k : ℕ} {h : Serves X} {z : Stand X} → Story m n time p call r k h z → Reached p call r k z
+    reached : (p : X) (call : ℕ → Call) (r : ℕ → Result Answer Fault) {k : ℕ} {h : Serves X} {z : Stand X} → Story m n time p call r k h z → Reached p call r k z
     reached p call r (joined z b kept) = b
     reached p call r (called k h h' b z s d kept) = (b, reached p call r s, by_call b h d)
 
-    reached_same : (p q : X) (call : ℕ → Call) (r r' : ℕ → Answer) → like p q → (k : ℕ) (z w : Stand X) → Reached p call r k z → Reached q call r' k w →
+    reached_same : (p q : X) (call : ℕ → Call) (r r' : ℕ → Result Answer Fault) → like p q → (k : ℕ) (z w : Stand X) → Reached p call r k z → Reached q call r' k w →
         ((j : ℕ) → j < k → r j ≡ r' j) × SameStand n like z w
     reached_same p q call r r' e zero z w x y = ((λ j lt. absurd (omega arith)), begins_same p q z w e x y)
     reached_same p q call r r' e (suc k) z w x y =
@@ -156,6 +157,6 @@ module _ {X : Type 0} (m : Ghosts X) (like : X → X → Type 0) (one : OneOutco
         let o = by_same (call k) x.0 y.0 (r k) (r' k) z w i.1 x.2 y.2 in
         ((λ j lt. elim (cases_eq j k) [ inl same ↦ subst (λ (v : ℕ). r v ≡ r' v) (sym same) o.0 | inr ne ↦ i.0 j (omega arith) ]), o.1)
 
-    pub stories_same : (p q : X) → like p q → (call : ℕ → Call) (r r' : ℕ → Answer) (k : ℕ) (h h' : Serves X) (z z' : Stand X) →
+    pub stories_same : (p q : X) → like p q → (call : ℕ → Call) (r r' : ℕ → Result Answer Fault) (k : ℕ) (h h' : Serves X) (z z' : Stand X) →
         Story m n time p call r k h z → Story m n time q call r' k h' z' → (j : ℕ) → j < k → r' j ≡ r j
     stories_same p q e call r r' k h h' z z' s s' j lt = sym ((reached_same p q call r r' e k z z' (reached p call r s) (reached q call r' s')).0 j lt)

@@ -1,6 +1,9 @@
 -- What the loops of a shared tick come to. Assumes nothing.
-use Rattle.std.proofs.Common.{◌≡◌, ℕ, zero, suc, ◌+◌, ◌<◌, ◌≤◌, Bool, true, false, cond, ◌&&◌, eqb, ltb, List, replicate, refl, ap, ◌∙◌, ap₂, arith}
+use Rattle.std.proofs.Common.{◌≡◌, ℕ, zero, suc, ◌+◌, ◌<◌, ◌≤◌, Bool, true, false, cond, ◌&&◌, eqb, ltb, List, length, take, replicate, refl, ap, ◌∙◌, ap₂, add-one, arith}
+use Rattle.std.specs.List.{count_by}
+use Rattle.std.proofs.lemmas.List.Sums.{count_by_more_yes, count_by_more_no}
 use Rattle.std.proofs.lemmas.Bool.Decides.{nat_tests}
+use Rattle.std.proofs.lemmas.Bool.{both_ways}
 use Rattle.policy.specs.declared.meaning.Policy.{Ghosts}
 use Rattle.graph.specs.declared.graph.Graph.{Graph}
 use Rattle.model.specs.Net.{Net, State, when, busy, ready, start, ends, finish, tick, initial_state, run}
@@ -12,12 +15,19 @@ use Rattle.runs.specs.Loops.{flag}
 use Rattle.runs.specs.Places.{Whole}
 use Rattle.runs.proofs.Graphs.{graph_fitting, graph_timed}
 use Rattle.runs.proofs.Places.{first_whole, tick_whole}
-use Rattle.bench.specs.Sharing.{Lays, newly, stand, many, Begins, Stepped}
+use Rattle.bench.specs.Sharing.{Asked, Lays, newly, stand, many, Begins, Stepped}
 
 pub lays_same : {X : Type 0} (m : Ghosts X) (go go' : ℕ → Bool) (k : ℕ) (p q : X) → ((a : ℕ) → a < k → go a ≡ go' a) → Lays m go k p q → Lays m go' k p q
 lays_same m go go' zero p q e h = h
 lays_same m go go' (suc k) p q e h =
     (h.0, lays_same m go go' k p h.0 (λ a lt. e a (omega arith)) h.1, (λ t. h.2 (e k (omega arith) ∙ t)), (λ t. h.3 (e k (omega arith) ∙ t)))
+
+-- one more starts, and lay is asked for it; or it does not start
+pub lays_start : {X : Type 0} (m : Ghosts X) (go : ℕ → Bool) (k : ℕ) (p r q : X) → Lays m go k p r → go k ≡ true → Asked m r k q → Lays m go (k + 1) p q
+lays_start m go k p r q l e asked = rw add-one (r, l, (λ _. asked), (λ f. absurd (both_ways (go k) f e)))
+
+pub lays_stay : {X : Type 0} (m : Ghosts X) (go : ℕ → Bool) (k : ℕ) (p r q : X) → Lays m go k p r → go k ≡ false → q ≡ r → Lays m go (k + 1) p q
+lays_stay m go k p r q l e same = rw add-one (r, l, (λ t. absurd (both_ways (go k) e t)), (λ _. same))
 
 pub many_same : (f f' : ℕ → Bool) (k : ℕ) → ((a : ℕ) → a < k → f a ≡ f' a) → many f k ≡ many f' k
 many_same f f' zero e = refl
@@ -93,6 +103,15 @@ at_most_one false = omega arith
 -- a tick adds one at most to a count
 pub step_few : {X : Type 0} (m : Ghosts X) (n : Net) (time : ℕ → ℕ) (p p' : X) (s s' : State) (k : ℕ) → Stepped m n time p s p' s' k → (a : ℕ) → a < n.actors → s'.ended a ≤ s.ended a + 1
 step_few m n time p p' s s' k h a ha = omega (arith, (h.ticks 0).goes.ended a ha, at_most_one (ends s (taken s (m.view h.served).left) a))
+
+-- so many of the first k marks stand
+pub many_marked : (bs : List Bool) (k : ℕ) → k ≤ length bs → count_by (λ b. b) (take k bs) ≡ many (flag bs) k
+many_marked bs zero h = refl
+many_marked bs (suc k) h = by (many_marked bs k (omega arith)) (flag bs k) refl
+  where
+    by : count_by (λ b. b) (take k bs) ≡ many (flag bs) k → (b : Bool) → flag bs k ≡ b → count_by (λ b. b) (take (suc k) bs) ≡ many (flag bs) (suc k)
+    by before true e = let one : when (flag bs k) 1 ≡ 1 = ap (λ b. when b 1) e in omega (arith, rw (add-one k) at (count_by_more_yes (λ b. b) bs k false (omega arith) e))
+    by before false e = let none : when (flag bs k) 1 ≡ 0 = ap (λ b. when b 1) e in omega (arith, rw (add-one k) at (count_by_more_no (λ b. b) bs k false (omega arith) e))
 
 pub zeros : (k a : ℕ) → at (replicate k 0) a ≡ 0
 zeros zero a = refl

@@ -19,7 +19,6 @@ use Rattle.rates.specs.Rates.{last_tick}
 use Rattle.bench.specs.declared.bench.Bench.{Bench}
 use Rattle.bench.specs.declared.call.Call.{Call}
 use Rattle.bench.specs.declared.call.Answer.{Answer}
-use Rattle.bench.specs.declared.call.Answer.TheVariants.{Refused}
 use Rattle.bench.specs.Sharing.{Stand, stand, Begins, Ticks, ended_now}
 use Rattle.bench.specs.Story.{Serves, InStep, Does}
 
@@ -57,6 +56,6 @@ QuestionIs (Some w) k f a r = r ≡ Err (Works w)
 QuestionIs None k f a (Ok x) = (a < k) × (x ≡ f a)
 QuestionIs None k f a (Err e) = (k ≤ a) × (e ≡ Absent)
 
-abbrev pub PerformIs : {X : Type 0} → Ghosts X → Net → (ℕ → ℕ) → Option ℕ → Stand X → Call → Answer → Stand X → Type 0
-PerformIs m n time (Some a) b c r z = (r ≡ Refused (Works a)) × (z ≡ b)
+abbrev pub PerformIs : {X : Type 0} → Ghosts X → Net → (ℕ → ℕ) → Option ℕ → Stand X → Call → Result Answer Fault → Stand X → Type 0
+PerformIs m n time (Some a) b c r z = (r ≡ Err (Works a)) × (z ≡ b)
 PerformIs {X} m n time None b c r z = (h : Serves X) → (h' : Serves X) × Does m n time b h c r z h'

@@ -8,18 +8,19 @@
 -- Does      what a call does and answers
 -- Story     the bench that was joined with a policy, after its first calls, with what is kept at each moment
 -- Followed  the calls made: their story, or the join's refusal to each
-use Rattle.std.specs.Prelude.{◌≡◌, ℕ, suc, ◌+◌, ◌<◌, ◌≤◌, ◌&&◌, List, [], ◌∷◌, length, get_or, ◌==◌, nat_lt, slice_index_or}
+use Rattle.std.specs.Prelude.{◌≡◌, ℕ, suc, ◌+◌, ◌<◌, ◌≤◌, ◌&&◌, List, [], ◌∷◌, Ok, Err, Result, length, get_or, ◌==◌, nat_lt, slice_index_or}
 use Rattle.policy.specs.declared.meaning.Policy.{Ghosts}
 use Rattle.policy.specs.Meaning.{SameTerms}
 use Rattle.model.specs.Net.{Net, when, run}
 use Rattle.model.specs.Laws.{Paced}
+use Rattle.rates.specs.declared.fault.Fault.{Fault}
 use Rattle.rates.specs.declared.fault.Fault.TheVariants.{Works, LastTick, Absent}
 use Rattle.rates.specs.Rates.{last_tick}
 use Rattle.rates.specs.Agree.{Agreed, Differ}
 use Rattle.bench.specs.declared.call.Call.{Call}
 use Rattle.bench.specs.declared.call.Call.TheVariants.{Tick, Count, Tokens, Due, Restart}
 use Rattle.bench.specs.declared.call.Answer.{Answer}
-use Rattle.bench.specs.declared.call.Answer.TheVariants.{Ticked, Counted, Held, Owed, Restarted, Refused}
+use Rattle.bench.specs.declared.call.Answer.TheVariants.{Ticked, Counted, Held, Owed, Restarted}
 use Rattle.bench.specs.Sharing.{Stand, Begins, Ticks, ended_now}
 
 abbrev pub Serves : Type 0 → Type 0
@@ -44,26 +45,26 @@ pub record InStep {X : Type 0} (m : Ghosts X) (n : Net) (time : ℕ → ℕ) (p 
   pub kept : Kept m n time (m.view p).promise h z
 
 -- b and the serves h stand before the call, and z and others after it
-pub data Does {X : Type 0} (m : Ghosts X) (n : Net) (time : ℕ → ℕ) (b : Stand X) (h : Serves X) : Call → Answer → Stand X → Serves X → Type 0 where
+pub data Does {X : Type 0} (m : Ghosts X) (n : Net) (time : ℕ → ℕ) (b : Stand X) (h : Serves X) : Call → Result Answer Fault → Stand X → Serves X → Type 0 where
   ticked : (q : X) (z : Stand X) → b.tick < last_tick → Ticks m n time b q z →
-      Does m n time b h Tick (Ticked z.tick (ended_now m n b.state q)) z ((b.policy, q) ∷ h)
-  late : b.tick ≡ last_tick → Does m n time b h Tick (Refused LastTick) b h
-  counted : (a : ℕ) → a < n.actors → Does m n time b h (Count a) (Counted (b.state.ended a)) b h
-  no_count : (a : ℕ) → n.actors ≤ a → Does m n time b h (Count a) (Refused Absent) b h
-  held : (c : ℕ) → c < n.channels → Does m n time b h (Tokens c) (Held (b.state.tokens c)) b h
-  no_tokens : (c : ℕ) → n.channels ≤ c → Does m n time b h (Tokens c) (Refused Absent) b h
-  owed : (a : ℕ) → a < n.actors → Does m n time b h (Due a) (Owed ((m.view b.policy).due a)) b h
-  no_due : (a : ℕ) → n.actors ≤ a → Does m n time b h (Due a) (Refused Absent) b h
-  restarted : (z : Stand X) → Begins m n time b.policy z → Does m n time b h Restart Restarted z []
+      Does m n time b h Tick (Ok (Ticked z.tick (ended_now m n b.state q))) z ((b.policy, q) ∷ h)
+  late : b.tick ≡ last_tick → Does m n time b h Tick (Err LastTick) b h
+  counted : (a : ℕ) → a < n.actors → Does m n time b h (Count a) (Ok (Counted (b.state.ended a))) b h
+  no_count : (a : ℕ) → n.actors ≤ a → Does m n time b h (Count a) (Err Absent) b h
+  held : (c : ℕ) → c < n.channels → Does m n time b h (Tokens c) (Ok (Held (b.state.tokens c))) b h
+  no_tokens : (c : ℕ) → n.channels ≤ c → Does m n time b h (Tokens c) (Err Absent) b h
+  owed : (a : ℕ) → a < n.actors → Does m n time b h (Due a) (Ok (Owed ((m.view b.policy).due a))) b h
+  no_due : (a : ℕ) → n.actors ≤ a → Does m n time b h (Due a) (Err Absent) b h
+  restarted : (z : Stand X) → Begins m n time b.policy z → Does m n time b h Restart (Ok Restarted) z []
 
 -- after k calls
-pub data Story {X : Type 0} (m : Ghosts X) (n : Net) (time : ℕ → ℕ) (p : X) (call : ℕ → Call) (answer : ℕ → Answer) : ℕ → Serves X → Stand X → Type 0 where
+pub data Story {X : Type 0} (m : Ghosts X) (n : Net) (time : ℕ → ℕ) (p : X) (call : ℕ → Call) (answer : ℕ → Result Answer Fault) : ℕ → Serves X → Stand X → Type 0 where
   joined : (z : Stand X) → Begins m n time p z → Kept m n time (m.view p).promise [] z → Story m n time p call answer 0 [] z
   called : (k : ℕ) (h h' : Serves X) (b z : Stand X) → Story m n time p call answer k h b →
       Does m n time b h (call k) (answer k) z h' → Kept m n time (m.view p).promise h' z → Story m n time p call answer (suc k) h' z
 
 -- as many as k calls, of a bench joined with p; answers past them stay
-pub record Followed {X : Type 0} (m : Ghosts X) (n : Net) (time : ℕ → ℕ) (p : X) (calls : List Call) (answers answers' : List Answer) (k : ℕ) (z : Stand X) : Type 0 where
-  pub story : Agreed n time (m.view p) → (h : Serves X) × Story m n time p (λ i. get_or calls i Tick) (λ i. get_or answers' i Restarted) k h z
-  pub refused : (a : ℕ) → Differ n time (m.view p) a → Begins m n time p z × ((i : ℕ) → i < k → slice_index_or answers' i Restarted ≡ Refused (Works a))
-  pub rest : (i : ℕ) → k ≤ i → slice_index_or answers' i Restarted ≡ slice_index_or answers i Restarted
+pub record Followed {X : Type 0} (m : Ghosts X) (n : Net) (time : ℕ → ℕ) (p : X) (calls : List Call) (answers answers' : List (Result Answer Fault)) (k : ℕ) (z : Stand X) : Type 0 where
+  pub story : Agreed n time (m.view p) → (h : Serves X) × Story m n time p (λ i. get_or calls i Tick) (λ i. get_or answers' i (Ok Restarted)) k h z
+  pub refused : (a : ℕ) → Differ n time (m.view p) a → Begins m n time p z × ((i : ℕ) → i < k → slice_index_or answers' i (Ok Restarted) ≡ Err (Works a))
+  pub rest : (i : ℕ) → k ≤ i → slice_index_or answers' i (Ok Restarted) ≡ slice_index_or answers i (Ok Restarted)

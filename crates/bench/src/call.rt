@@ -1,8 +1,7 @@
-// The calls of a bench as values, and its answers.
-use rates::Fault;
+// The calls of a bench as values, and what they answer when they are not refused.
 
 // A call: a tick, the count or the due of an actor, the tokens of a channel, a restart.
-#[derive(Clone, Copy)]
+#[derive(Clone, Copy, PartialEq, Eq, Debug)]
 pub enum Call {
     Tick,
     Count(u8),
@@ -12,7 +11,7 @@ pub enum Call {
 }
 
 // What a call answers.
-#[derive(Clone, Copy)]
+#[derive(Clone, Copy, PartialEq, Eq, Debug)]
 pub enum Answer {
     // The tick number, and the firings ended in that tick.
     Ticked(u32, u8),
@@ -20,5 +19,4 @@ pub enum Answer {
     Held(u16),
     Owed(u16),
     Restarted,
-    Refused(Fault),
 }

@@ -1,5 +1,5 @@
 // The calls of a bench.
-ghost use Rattle.std.specs.Prelude.{◌≡◌, false, [], is_ok};
+ghost use Rattle.std.specs.Prelude.{◌≡◌, false, [], is_ok, MatchOption};
 ghost use Rattle.runs.specs.Seen.{net, times_of, state};
 ghost use Rattle.rates.specs.Agree.{Agreed, Lowest, Checked};
 ghost use Rattle.bench.specs.Calls.{look, graph_of, TickIs, RestartIs, QuestionIs};
@@ -13,15 +13,22 @@ use policy::Policy;
 use rates::{Fault, LAST_TICK, lowest_differing};
 use runs::Run;
 
+// What becomes of a join of which that is the lowest actor at which graph and policy do not agree, if any.
+fn accepted(refused: Option<u8>) -> Result<(), Fault>
+    ensures { MatchOption refused (result ≡ Ok tt) (λ a. result ≡ Err (Fault.Works a)) }
+{
+    match refused {
+        None => Ok(()),
+        Some(a) => Err(Fault::Works(a)),
+    }
+}
+
 impl<'g, P: Policy> Bench<'g, P> {
     // Whether the policy's works are the graph's times.
     pub fn check(graph: &Graph, policy: &P) -> Result<(), Fault>
         ensures { Checked (net graph.now) (times_of graph.now) (P.Policy.view policy.now) result }
     {
-        match lowest_differing(graph, policy) {
-            None => Ok(()),
-            Some(a) => Err(Fault::Works(a)),
-        }
+        accepted(lowest_differing(graph, policy))
     }
 
     // The bench of graph and policy, with the policy cleared and tick 0 done.
@@ -49,9 +56,7 @@ impl<'g, P: Policy> Bench<'g, P> {
         ensures same { (graph_of self.new ≡ graph_of self.old) × (self.new.refused ≡ self.old.refused) }
         ensures refused { is_ok result ≡ false → self.new ≡ self.old }
     {
-        if let Some(a) = self.refused {
-            return Err(Fault::Works(a));
-        }
+        accepted(self.refused)?;
         if self.tick >= LAST_TICK {
             return Err(Fault::LastTick);
         }
@@ -60,42 +65,39 @@ impl<'g, P: Policy> Bench<'g, P> {
         Ok((self.tick, ended))
     }
 
+    // The number of an actor or a channel that is asked of, where so many are there.
+    fn asked(&self, number: u8, there: usize) -> Result<usize, Fault>
+        ensures { QuestionIs self.now.refused there (λ i. i) number result }
+    {
+        accepted(self.refused)?;
+        if usize::from(number) < there {
+            Ok(usize::from(number))
+        } else {
+            Err(Fault::Absent)
+        }
+    }
+
     // How many firings of an actor have ended since the latest join or restart.
     pub fn count(&self, a: u8) -> Result<u32, Fault>
         ensures { QuestionIs self.now.refused (net (graph_of self.now)).actors (state self.now.run).ended a result }
     {
-        if let Some(w) = self.refused {
-            return Err(Fault::Works(w));
-        }
-        if a as usize >= self.graph.actors().len() {
-            return Err(Fault::Absent);
-        }
-        Ok(self.run.counts[a as usize])
+        let a = self.asked(a, self.graph.actors().len())?;
+        Ok(self.run.counts[a])
     }
 
     // The tokens on a channel.
     pub fn tokens(&self, c: u8) -> Result<u16, Fault>
         ensures { QuestionIs self.now.refused (net (graph_of self.now)).channels (state self.now.run).tokens c result }
     {
-        if let Some(w) = self.refused {
-            return Err(Fault::Works(w));
-        }
-        if c as usize >= self.graph.channels().len() {
-            return Err(Fault::Absent);
-        }
-        Ok(self.run.tokens[c as usize])
+        let c = self.asked(c, self.graph.channels().len())?;
+        Ok(self.run.tokens[c])
     }
 
     // The most ticks until an actor's firing under way ends.
     pub fn due(&self, a: u8) -> Result<u16, Fault>
         ensures { QuestionIs self.now.refused (net (graph_of self.now)).actors (P.Policy.view self.now.policy).due a result }
     {
-        if let Some(w) = self.refused {
-            return Err(Fault::Works(w));
-        }
-        if a as usize >= self.graph.actors().len() {
-            return Err(Fault::Absent);
-        }
+        self.asked(a, self.graph.actors().len())?;
         Ok(self.policy.due(a))
     }
 
@@ -105,9 +107,7 @@ impl<'g, P: Policy> Bench<'g, P> {
         ensures same { (graph_of self.new ≡ graph_of self.old) × (self.new.refused ≡ self.old.refused) }
         ensures refused { is_ok result ≡ false → self.new ≡ self.old }
     {
-        if let Some(a) = self.refused {
-            return Err(Fault::Works(a));
-        }
+        accepted(self.refused)?;
         tick_zero(self.graph, &mut self.policy, &mut self.run);
         self.tick = 0;
         Ok(())

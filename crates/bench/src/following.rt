@@ -1,5 +1,5 @@
 // A list of calls made of a bench, with the guarantee whole.
-ghost use Rattle.std.specs.Prelude.{◌≡◌, ℕ, ◌<◌, ◌≤◌, min, length};
+ghost use Rattle.std.specs.Prelude.{◌≡◌};
 ghost use Rattle.runs.specs.Seen.{net, times_of};
 ghost use Rattle.rates.specs.Agree.{Agreed};
 ghost use Rattle.bench.specs.Calls.{look, graph_of, PerformIs};
@@ -10,44 +10,22 @@ use crate::call::{Answer, Call};
 use crate::report::Report;
 use graph::Graph;
 use policy::{Exact, Policy};
-use rates::{Sample, promised_rate, unhindered_rate};
+use rates::{Fault, Sample, promised_rate, unhindered_rate};
 
 impl<'g, P: Policy> Bench<'g, P> {
     // Makes a call.
-    fn perform(&mut self, call: Call) -> Answer
+    fn perform(&mut self, call: Call) -> Result<Answer, Fault>
         ensures value { PerformIs P.Policy (net (graph_of self.old)) (times_of (graph_of self.old)) self.old.refused (look self.old) call result (look self.new) }
         ensures same { (graph_of self.new ≡ graph_of self.old) × (self.new.refused ≡ self.old.refused) }
     {
         match call {
-            Call::Tick => match self.tick() {
-                Ok((tick, ended)) => Answer::Ticked(tick, ended),
-                Err(fault) => Answer::Refused(fault),
-            },
-            Call::Count(a) => match self.count(a) {
-                Ok(count) => Answer::Counted(count),
-                Err(fault) => Answer::Refused(fault),
-            },
-            Call::Tokens(c) => match self.tokens(c) {
-                Ok(tokens) => Answer::Held(tokens),
-                Err(fault) => Answer::Refused(fault),
-            },
-            Call::Due(a) => match self.due(a) {
-                Ok(due) => Answer::Owed(due),
-                Err(fault) => Answer::Refused(fault),
-            },
-            Call::Restart => match self.restart() {
-                Ok(_) => Answer::Restarted,
-                Err(fault) => Answer::Refused(fault),
-            },
+            Call::Tick => self.tick().map(|(tick, ended)| Answer::Ticked(tick, ended)),
+            Call::Count(a) => self.count(a).map(Answer::Counted),
+            Call::Tokens(c) => self.tokens(c).map(Answer::Held),
+            Call::Due(a) => self.due(a).map(Answer::Owed),
+            Call::Restart => self.restart().map(|_| Answer::Restarted),
         }
     }
-}
-
-// The lesser of two numbers.
-fn lesser(a: usize, b: usize) -> usize
-    ensures { result ≡ min a b }
-{
-    if a <= b { a } else { b }
 }
 
 // Rates both runs, joins graph and policy, and makes the calls, as many as there is room for answers.
@@ -55,7 +33,7 @@ pub fn follow<'g, P: Policy>(
     graph: &'g Graph,
     policy: P,
     calls: &[Call],
-    answers: &mut [Answer],
+    answers: &mut [Result<Answer, Fault>],
     rows: &mut [Sample],
     held_rows: &mut [Sample],
 ) -> Report<'g, P>
@@ -64,9 +42,9 @@ pub fn follow<'g, P: Policy>(
     let unhindered = unhindered_rate(graph, rows);
     let promised = promised_rate(graph, &policy, held_rows);
     let mut bench = Bench::join(graph, policy);
-    let n = lesser(calls.len(), answers.len());
-    for i in 0..n {
-        answers[i] = bench.perform(calls[i]);
+    let made = calls.len().min(answers.len());
+    for (i, call) in calls[..made].iter().enumerate() {
+        answers[i] = bench.perform(*call);
     }
     Report {
         bench,
@@ -80,7 +58,7 @@ pub fn follow_exact<'g, P: Exact>(
     graph: &'g Graph,
     policy: P,
     calls: &[Call],
-    answers: &mut [Answer],
+    answers: &mut [Result<Answer, Fault>],
     rows: &mut [Sample],
     held_rows: &mut [Sample],
 ) -> Report<'g, P>

@@ -1,50 +1,38 @@
 // Tick 0 and the later ticks of a run that a policy shares.
-ghost use Rattle.std.specs.Prelude.{◌≡◌, ℕ, ◌<◌, ◌≤◌, true, false, ◌&&◌, length, ◌==◌, nat_lt};
+ghost use Rattle.std.specs.Prelude.{◌≡◌, ℕ, ◌<◌, ◌≤◌, count_by, length};
 ghost use Rattle.model.specs.Likeness.{Matches};
 ghost use Rattle.model.specs.Net.{run as run_at};
-ghost use Rattle.runs.specs.Firings.{left_of};
-ghost use Rattle.runs.specs.Loops.{flag, Fitting, Countable};
+ghost use Rattle.runs.specs.Loops.{Fitting, Countable};
 ghost use Rattle.runs.specs.Places.{Whole};
 ghost use Rattle.runs.specs.Seen.{net_of, net, at, times_of, state, taken};
-ghost use Rattle.bench.specs.Sharing.{Asked, Lays, newly, many, stand, Begins, Stepped};
+ghost use Rattle.bench.specs.Sharing.{Lays, newly, stand, Begins, Stepped};
 
 use graph::{Channel, Graph};
 use policy::Policy;
-use runs::{Firing, Run, reset, step, times};
+use runs::{Run, reset, step, times};
+use std::array;
+
+// The ticks left that the policy has of an actor, if a firing of it is under way.
+fn taken_by<P: Policy>(a: usize, policy: &P, run: &Run) -> u16
+    requires { a < 16 }
+    ensures { result ≡ taken (state run.now) (P.Policy.view policy.now).left a }
+{
+    if run.firings[a].left() > 0 {
+        policy.left(a as u8)
+    } else {
+        0
+    }
+}
 
 // Serves the policy once; the ticks left that it then has, of the firings under way.
-fn serve_and_take<P: Policy>(actors: usize, policy: &mut P, run: &Run) -> [u16; 16]
-    requires { actors ≤ 16 }
+fn serve_and_take<P: Policy>(policy: &mut P, run: &Run) -> [u16; 16]
     ensures serves { P.Policy.ticks policy.old policy.new }
     ensures size { length result ≡ 16 }
-    ensures value { (a : ℕ) → a < actors → at result a ≡ taken (state run.now) (P.Policy.view policy.new).left a }
+    ensures value { (a : ℕ) → a < 16 → at result a ≡ taken (state run.now) (P.Policy.view policy.new).left a }
 {
     policy.serve();
-    let mut left = [0; 16];
-    for a in 0..actors {
-        if run.firings[a].left() > 0 {
-            left[a] = policy.left(a as u8);
-        }
-    }
-    left
-}
-
-// Whether a firing has begun where none had ticks left.
-fn begun(left: u16, firing: Firing) -> bool
-    ensures { result ≡ (left == 0 && nat_lt 0 (left_of firing)) }
-{
-    left == 0 && firing.left() > 0
-}
-
-// Asks for a lay of an actor, if it starts.
-fn lay_if<P: Policy>(starts: bool, a: u8, policy: &mut P)
-    ensures asked { starts ≡ true → Asked P.Policy policy.old a policy.new }
-    ensures kept { starts ≡ false → policy.new ≡ policy.old }
-{
-    if !starts {
-        return;
-    }
-    let _ = policy.lay(a);
+    let policy = &*policy;
+    array::from_fn(|a| taken_by(a, policy, run))
 }
 
 // Asks for a lay of each actor whose firing has begun, after the ticks left that there were.
@@ -52,23 +40,19 @@ fn lay_begun<P: Policy>(actors: usize, left: &[u16; 16], run: &Run, policy: &mut
     requires { actors ≤ 16 }
     ensures { Lays P.Policy (newly (at left.now) (state run.now)) actors policy.old policy.new }
 {
-    for a in 0..actors {
-        lay_if(begun(left[a], run.firings[a]), a as u8, policy);
+    for (a, left) in left[..actors].iter().enumerate() {
+        if *left == 0 && run.firings[a].left() > 0 {
+            let _ = policy.lay(a as u8);
+        }
     }
 }
 
-// How many of the actors are marked.
-fn marked(actors: usize, marks: &[bool; 16]) -> u8
-    requires { actors ≤ 16 }
-    ensures { result ≡ many (flag marks.now) actors }
+// How many are marked.
+fn marked(marks: &[bool]) -> u8
+    requires { length marks.now ≤ 16 }
+    ensures { result ≡ count_by (λ mark. mark) marks.now }
 {
-    let mut n = 0;
-    for a in 0..actors {
-        if marks[a] {
-            n += 1;
-        }
-    }
-    n
+    marks.iter().filter(|mark| **mark).count() as u8
 }
 
 // Clears the policy; the run as tick 0 leaves it.
@@ -105,8 +89,8 @@ pub fn later_tick<P: Policy>(graph: &Graph, policy: &mut P, run: &mut Run) -> u8
     ensures whole { Whole (net graph.now) (state run.new) }
 {
     let actors = graph.actors().len();
-    let left = serve_and_take(actors, policy, run);
+    let left = serve_and_take(policy, run);
     let done = step(actors, graph.channels(), &times(graph), &left, run);
     lay_begun(actors, &left, run, policy);
-    marked(actors, &done)
+    marked(&done[..actors])
 }

@@ -1,7 +1,7 @@
 use crate::benches::{counted, counts_at, refused, ticked};
 use crate::files::{Line, graph};
 use crate::rating::repeats;
-use bench::{Answer, Bench, Call, LAST_TICK, Sample, follow, promised_rate};
+use bench::{Answer, Bench, Call, Fault, LAST_TICK, Sample, follow, promised_rate};
 use policy::{Free, Policy, Ring, Slice};
 use std::test::Fail;
 
@@ -82,14 +82,14 @@ fn last_tick(rt: HostRuntime) -> Result<(), Fail> {
     Ok(())
 }
 
-fn number(answer: Answer) -> u32 {
+fn number(answer: Result<Answer, Fault>) -> u32 {
     match answer {
-        Answer::Ticked(tick, ended) => tick.wrapping_mul(100).wrapping_add(ended as u32),
-        Answer::Counted(count) => count,
-        Answer::Held(tokens) => tokens as u32,
-        Answer::Owed(due) => due as u32,
-        Answer::Restarted => 10_000,
-        Answer::Refused(fault) => 20_000 + fault.number() as u32,
+        Ok(Answer::Ticked(tick, ended)) => tick.wrapping_mul(100).wrapping_add(u32::from(ended)),
+        Ok(Answer::Counted(count)) => count,
+        Ok(Answer::Held(tokens)) => u32::from(tokens),
+        Ok(Answer::Owed(due)) => u32::from(due),
+        Ok(Answer::Restarted) => 10_000,
+        Err(fault) => 20_000 + u32::from(fault.number()),
     }
 }
 
@@ -111,7 +111,7 @@ fn follows(rt: HostRuntime) -> Result<(), Fail> {
         Call::Restart,
         Call::Tick,
     ];
-    let mut answers = [Answer::Restarted; 13];
+    let mut answers = [Ok(Answer::Restarted); 13];
     let mut rows = [Sample::BLANK; 8];
     let mut held_rows = [Sample::BLANK; 8];
     let report = follow(
@@ -125,8 +125,8 @@ fn follows(rt: HostRuntime) -> Result<(), Fail> {
     let expected = [
         100, 201, 1, 300, 401, 1, 501, 1, 3, 20_019, 10_000, 100, 10_000,
     ];
-    for i in 0..13 {
-        assert_eq!(rt; number(answers[i]), expected[i]);
+    for (answer, number_expected) in answers.iter().zip(expected) {
+        assert_eq!(rt; number(*answer), number_expected);
     }
     repeats(report.unhindered, 4, 3, 1)?;
     repeats(report.promised, 4, 3, 1)

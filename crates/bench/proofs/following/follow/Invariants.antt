@@ -1,4 +1,4 @@
-use Rattle.std.proofs.Common.{◌≡◌, ℕ, ◌≤◌, get_or}
+use Rattle.std.proofs.Common.{◌≡◌, ℕ, ◌≤◌, Ok, get_or}
 use Rattle.runs.specs.Seen.{net, times_of}
 use Rattle.rates.specs.Agree.{Lowest}
 use Rattle.bench.specs.declared.call.Answer.TheVariants.{Restarted}
@@ -14,4 +14,4 @@ invariant-loop-i g l =
     × ((p : g.row.P.Denot) → Lowest (net l.graph) (times_of l.graph) (g.P.Policy.view p) l.initial.bench.refused →
     Begins g.P.Policy (net l.graph) (times_of l.graph) p (look l.initial.bench) →
     SoFar g.P.Policy (net l.graph) (times_of l.graph) p l.calls l.answers l.i (look l.bench) l.initial.bench.refused)
-    × ((j : ℕ) → l.i ≤ j → get_or l.answers j Restarted ≡ get_or l.initial.answers j Restarted)
+    × ((j : ℕ) → l.i ≤ j → get_or l.answers j (Ok Restarted) ≡ get_or l.initial.answers j (Ok Restarted))

@@ -1,4 +1,4 @@
-use Rattle.std.proofs.Common.{get_or}
+use Rattle.std.proofs.Common.{Ok, get_or}
 use Rattle.runs.specs.Seen.{net, times_of}
 use Rattle.runs.proofs.Graphs.{graph_fitting}
 use Rattle.bench.specs.declared.call.Call.TheVariants.{Tick}
@@ -17,6 +17,6 @@ returns g c =
       pinned = λ agreed q answer h z like s.
           let told = c.follow.ensures.story.story agreed in
           stories_same g.P.Policy g.P.Exact.like (record { shown = exact.shown; ticks = exact.ticking; lays = exact.laying; clears = exact.clearing })
-          (net gr) (graph_fitting gr).sound (times_of gr) c.args.policy q like (λ i. get_or calls i Tick) (λ i. get_or c.follow.new.answers i Restarted) answer
+          (net gr) (graph_fitting gr).sound (times_of gr) c.args.policy q like (λ i. get_or calls i Tick) (λ i. get_or c.follow.new.answers i (Ok Restarted)) answer
           (made calls c.args.answers.now) told.0 h _ z told.1 s;
     }

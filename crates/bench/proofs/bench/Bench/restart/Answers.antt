@@ -4,7 +4,7 @@ use Rattle.runs.specs.Seen.{net, times_of, state}
 use Rattle.runs.proofs.Graphs.{graph_fitting, graph_timed}
 use Rattle.bench.specs.Sharing.{stand}
 use Rattle.bench.specs.Calls.{look}
-use Rattle.bench.proofs.Answered.{restarted_so}
+use Rattle.bench.proofs.Answered.{nobody, restarted_so}
 use Rattle.bench.proofs.bench.Bench.restart.Goals as goal
 
 pub returns : goal.returns
@@ -15,7 +15,7 @@ returns g c =
     record {
       value = restarted_so g.P.Policy (record { sound = met.sound; ticked = met.ticked; laid = met.laid; cleared = met.cleared })
           (net gr) (graph_fitting gr).sound (times_of gr) (graph_timed gr) b.refused (look b) (stand 0 (state c.tick_zero.new.run) c.tick_zero.new.policy) tt
-          c.in_default.is c.tick_zero.ensures.begins;
+          (nobody b.refused _ _ refl c.in_ok-accepted.ensures) c.tick_zero.ensures.begins;
       same = (refl, refl);
       refused = λ e. absurd (true≢false e);
     }

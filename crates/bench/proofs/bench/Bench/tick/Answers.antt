@@ -3,7 +3,7 @@ use Rattle.std.proofs.lemmas.Bool.{true≢false}
 use Rattle.runs.specs.Seen.{net, times_of, state}
 use Rattle.runs.proofs.Graphs.{graph_fitting, graph_timed}
 use Rattle.bench.proofs.Sharings.{step_few}
-use Rattle.bench.proofs.Answered.{ticked_so}
+use Rattle.bench.proofs.Answered.{nobody, ticked_so}
 use Rattle.bench.proofs.bench.Bench.tick.Goals as goal
 
 pub invariant_of-self : goal.invariant_of-self
@@ -22,7 +22,7 @@ returns g c =
     record {
       value = ticked_so g.P.Policy (record { sound = met.sound; ticked = met.ticked; laid = met.laid; cleared = met.cleared })
           (net gr) (graph_fitting gr).sound (times_of gr) (graph_timed gr) b.refused b.policy c.later_tick-ended.new.policy (state b.run) (state c.later_tick-ended.new.run)
-          b.tick c.later_tick-ended.result c.in_default.is (omega arith) c.later_tick-ended.ensures.ticks;
+          b.tick c.later_tick-ended.result (nobody b.refused _ _ refl c.in_ok-accepted.ensures) (omega arith) c.later_tick-ended.ensures.ticks;
       same = (refl, refl);
       refused = λ e. absurd (true≢false e);
     }
