@@ -2,7 +2,7 @@ ghost use Rattle.std.specs.Prelude.{◌≡◌, codes};
 ghost use Rattle.fields.specs.Faults.{number_of, place_of};
 
 // Why a field is not read or written, with the number of the field.
-#[derive(Clone, Copy)]
+#[derive(Clone, Copy, PartialEq, Eq, Debug)]
 pub enum Fault {
     // The file ends inside the field or before it.
     Ends(u8),

@@ -3,7 +3,7 @@ ghost use Rattle.graph.specs.declared.fault.Fault.TheVariants.{Fields};
 ghost use Rattle.graph.specs.Faults.{layer_of, number_of, place_of};
 
 // Why bytes are no graph, or a graph is not written.
-#[derive(Clone, Copy)]
+#[derive(Clone, Copy, PartialEq, Eq, Debug)]
 pub enum Fault {
     // A fault of the layer below, whole.
     Fields(fields::Fault),

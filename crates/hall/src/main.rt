@@ -6,8 +6,7 @@ use std::io;
 
 fn main(rt: HostRuntime) -> io::Result<()> {
     let mut buffer = [0; ENOUGH];
-    let mut input = rt.stdin();
-    let size = fill(&mut input, &mut buffer)?;
-    let report = Report::of(&buffer[0..size]);
+    let size = fill(&mut rt.stdin(), &mut buffer)?;
+    let report = Report::of(&buffer[..size]);
     println!(rt; "{report}")
 }

@@ -2,7 +2,7 @@ ghost use Rattle.std.specs.Prelude.{◌≡◌};
 ghost use Rattle.rates.specs.Faults.{layer_of, number_of, place_of};
 
 // Why a bench or rate has no answer to give.
-#[derive(Clone, Copy)]
+#[derive(Clone, Copy, PartialEq, Eq, Debug)]
 pub enum Fault {
     // Works differ from times, or in number, with the lowest actor concerned.
     Works(u8),

@@ -20,7 +20,7 @@ use table::Table;
 pub const LAST_TICK: u32 = 10_000_000;
 
 // What a run comes to.
-#[derive(Clone, Copy)]
+#[derive(Clone, Copy, PartialEq, Eq, Debug)]
 pub enum Rate {
     // From tick f on, any d ticks see m times the repetition counts.
     Repeats { f: u32, d: u32, m: u32 },
