@@ -5,7 +5,6 @@
 ghost use Rattle.std.specs.Prelude.{◌≡◌, ◌<◌, length};
 
 use report::{ENOUGH, Report, fill};
-use std::io;
 
 // The report on the file with one of its bytes set to a value.
 fn damaged(file: &mut [u8], at: usize, value: u8) -> Report
@@ -17,7 +16,7 @@ fn damaged(file: &mut [u8], at: usize, value: u8) -> Report
 }
 
 // The reports on the file with one of its bytes set to each value, a line for values in a row with the same report.
-fn damage(rt: &impl Print, file: &mut [u8], at: usize) -> io::Result<()>
+fn damage(rt: &impl Print, file: &mut [u8], at: usize) -> anyhow::Result<()>
     requires { at < length file.old }
 {
     let good = file[at];
@@ -37,7 +36,8 @@ fn damage(rt: &impl Print, file: &mut [u8], at: usize) -> io::Result<()>
     Ok(())
 }
 
-fn main(rt: HostRuntime) -> io::Result<()> {
+fn main(rt: HostRuntime) -> anyhow::Result<()> {
+    // A buffer and its size: a Vec could run out of memory, and this program cannot.
     let mut buffer = [0; ENOUGH];
     let size = fill(&mut rt.stdin(), &mut buffer)?;
     let file = &mut buffer[..size];
