@@ -5,7 +5,6 @@ use crate::fault::Fault;
 use crate::pile::pile;
 use bench::{Rate, Sample, follow, unhindered_rate};
 use graph::Graph;
-use policy::Policy;
 use std::fmt;
 
 // How many rows a run has for its samples.
