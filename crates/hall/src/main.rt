@@ -5,9 +5,9 @@ use report::{ENOUGH, Report, fill};
 use std::io;
 
 fn main(rt: HostRuntime) -> io::Result<()> {
+    // A buffer and its size: a Vec could run out of memory, and this program cannot.
     let mut buffer = [0; ENOUGH];
-    let mut input = rt.stdin();
-    let size = fill(&mut input, &mut buffer)?;
-    let report = Report::of(&buffer[0..size]);
+    let size = fill(&mut rt.stdin(), &mut buffer)?;
+    let report = Report::of(&buffer[..size]);
     println!(rt; "{report}")
 }

@@ -9,7 +9,7 @@ use Rattle.graph.specs.Rules.{nobody, timed}
 use Rattle.graph.specs.Meaning.{actors_in}
 use Rattle.graph.proofs.Graphs.{actors_are}
 use Rattle.model.specs.Net.{when}
-use Rattle.policy.specs.Slices.{shown, Sliceable, SliceChecked, TooLong}
+use Rattle.policy.specs.Slices.{shown, TooLong}
 use Rattle.policy.specs.Turns.{total}
 use Rattle.policy.specs.Wheel.{wide}
 use Rattle.policy.specs.Works.{Workable, RowsMade}
@@ -20,7 +20,7 @@ use Rattle.policy.specs.contracts.ring.RingPolicy.TheImpl.{ghosts}
 use Rattle.policy.specs.declared.slice.Slice.{Slice}
 use Rattle.runs.specs.Seen.{at, times_of}
 use Rattle.report.specs.Lines.{together, promised, promised_to}
-use Rattle.report.specs.Piles.{ring_seen, PileIs}
+use Rattle.report.specs.Piles.{ring_seen, SliceIs, PileIs}
 
 -- a sum goes by what is added
 total_together : (ws : List ℕ) (f : ℕ → ℕ) (k : ℕ) → ((a : ℕ) → a < k → get_or ws a 0 ≡ f a) → total ws k ≡ together f k
@@ -91,20 +91,20 @@ module _ (g : Graph) (times works : List ℕ) (same : (a : ℕ) → at times a �
         let first : a ≡ 0 = ⊎_elim (λ (h : 0 < a). absurd (omega (arith, t.lowest 0 h, promise_is 0, first_is))) (λ h. omega arith) (cases_lt 0 a) in
         (first, over)
 
-    pub too_wide : (f : Fault) → SliceChecked (ring_seen r) 5 2 (Err f) → (f ≡ Promise 0) × (65535 < promised g)
+    pub too_wide : (f : Fault) → SliceIs r (Err f) → (f ≡ Promise 0) × (65535 < promised g)
     too_wide Crowd h = absurd h
     too_wide (Limits a) h = absurd (omega (arith, h.1 (lit< tt)))
     too_wide (Promise a) h = let t = too_long a h in (ap Promise t.0, t.1)
 
-    pub piled : (p : Slice Ring ghosts) → p.below ≡ r → Sliceable (ring_seen r) 5 2 → (p.period ≡ 5) × (p.slots ≡ 2) → PileIs g (Ok p)
-    piled p e s m =
-        let fits : (a : ℕ) → wide p.period p.slots ((ring_seen p.below).promise a) ≤ 65535 = λ a. rw (e, m.0, m.1) (s.fits a) in
-        let many : p.below.rows.count ≡ n = ap (λ (q : Ring). q.rows.count) e ∙ count_is in (
-          omega (arith, s.fits 0, promise_is 0, first_is),
+    pub piled : (p : Slice Ring ghosts) → SliceIs r (Ok p) → PileIs g (Ok p)
+    piled p m =
+        let fits : (a : ℕ) → wide p.period p.slots ((ring_seen p.below).promise a) ≤ 65535 = λ a. rw (m.0, m.1, m.2) (m.3.fits a) in
+        let many : p.below.rows.count ≡ n = ap (λ (q : Ring). q.rows.count) m.0 ∙ count_is in (
+          omega (arith, m.3.fits 0, promise_is 0, first_is),
           λ a. record {
             there = λ h. omega arith;
             here = λ h. omega arith;
-            same = shown_fits _ _ (fits a) ∙ (ap (λ (q : Ring). (ring_seen q).work a) e ∙ work_is a);
+            same = shown_fits _ _ (fits a) ∙ (ap (λ (q : Ring). (ring_seen q).work a) m.0 ∙ work_is a);
           },
-          λ a. shown_fits _ _ (fits a) ∙ rw (e, m.0, m.1) (promise_is a),
+          λ a. shown_fits _ _ (fits a) ∙ rw (m.0, m.1, m.2) (promise_is a),
         )

@@ -8,8 +8,11 @@
 -- promised_to  the same as a table
 -- held_in      what rate answers of the run with those promises; refused where they are over 65,535
 -- AcceptedIs   what reading the file answers
+-- RatesAre     the rates of a file's graph, or why it is refused
 -- ReportIs     the report on a file
 -- printed      an answer as it is printed
+-- rates_text   the rates of a graph as they are printed
+-- report_text  what a file comes to, as it is printed
 -- shown_of     a report as it is printed
 use Rattle.std.specs.Prelude.{◌≡◌, ℕ, zero, suc, ◌+◌, cond, List, ◌++◌, Ok, Err, codes, decimal, Result, nat_le, nat_lt}
 use Rattle.model.specs.Net.{when}
@@ -24,11 +27,11 @@ use Rattle.rates.specs.Rates.{told, last_tick}
 use Rattle.rates.specs.declared.rate.Rate.{Rate}
 use Rattle.rates.specs.declared.rate.Rate.TheVariants.{Repeats, Standstill}
 use Rattle.rates.specs.declared.fault.Fault.{Fault as BenchFault}
-use Rattle.report.specs.Faults.{layer_of, number_of, place_of}
+use Rattle.report.specs.Faults.{number_of, fault_text}
 use Rattle.report.specs.declared.fault.Fault.{Fault}
 use Rattle.report.specs.declared.fault.Fault.TheVariants.{Graph, Policy, Bench}
+use Rattle.report.specs.declared.line.Rates.{Rates}
 use Rattle.report.specs.declared.line.Report.{Report}
-use Rattle.report.specs.declared.line.Report.TheVariants.{Rated, Refused}
 
 abbrev pub kept : Result Rate BenchFault → Result Rate Fault
 kept (Ok r) = Ok r
@@ -60,15 +63,24 @@ AcceptedIs xs (Err (Policy e)) = ⊥
 AcceptedIs xs (Err (Bench e)) = ⊥
 
 -- both rates of the graph that the bytes are the file of, or the refusal of the file
+abbrev pub RatesAre : List ℕ → Result Rates Fault → Type 0
+RatesAre xs (Ok r) = (g : Accepted) × AcceptedIs xs (Ok g) × (r.rate.answer ≡ rate_in g) × (r.held.answer ≡ held_in g)
+RatesAre xs (Err f) = AcceptedIs xs (Err f)
+
 abbrev pub ReportIs : List ℕ → Report → Type 0
-ReportIs xs (Rated t h) = (g : Accepted) × AcceptedIs xs (Ok g) × (t.answer ≡ rate_in g) × (h.answer ≡ held_in g)
-ReportIs xs (Refused f) = AcceptedIs xs (Err f)
+ReportIs xs r = RatesAre xs r.answer
 
 abbrev pub printed : Result Rate Fault → List ℕ
 printed (Ok (Repeats f d m)) = decimal f ++ (codes " " ++ (decimal d ++ (codes " " ++ decimal m)))
 printed (Ok (Standstill f)) = codes "stop " ++ decimal f
 printed (Err e) = codes "none " ++ decimal (number_of e)
 
+abbrev pub rates_text : Rates → List ℕ
+rates_text r = codes "RATE " ++ (printed r.rate.answer ++ (codes "\nHELD " ++ printed r.held.answer))
+
+abbrev pub report_text : Result Rates Fault → List ℕ
+report_text (Ok r) = rates_text r
+report_text (Err f) = codes "FAULT " ++ fault_text f
+
 abbrev pub shown_of : Report → List ℕ
-shown_of (Rated t h) = codes "RATE " ++ (printed t.answer ++ (codes "\nHELD " ++ printed h.answer))
-shown_of (Refused f) = codes "FAULT " ++ (layer_of f ++ (codes " " ++ (decimal (number_of f) ++ (codes " " ++ decimal (place_of f)))))
+shown_of r = report_text r.answer

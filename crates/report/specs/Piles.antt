@@ -2,8 +2,9 @@
 use Rattle.std.specs.Prelude.{◌≡◌, ℕ, ◌<◌, ◌≤◌, Ok, Err, Result}
 use Rattle.graph.specs.declared.graph.Graph.{Graph}
 use Rattle.policy.specs.Meaning.{View}
-use Rattle.policy.specs.Slices.{sliced}
+use Rattle.policy.specs.Slices.{sliced, Sliceable, SliceChecked}
 use Rattle.policy.specs.Turns.{ringed}
+use Rattle.policy.specs.declared.fault.Fault.{Fault as PolicyFault}
 use Rattle.policy.specs.declared.fault.Fault.TheVariants.{Promise}
 use Rattle.policy.specs.declared.ring.Ring.{Ring}
 use Rattle.policy.specs.contracts.ring.RingPolicy.TheImpl.{ghosts}
@@ -20,6 +21,11 @@ ring_seen r = ringed r.rows.count r.rows.works r.rows.left r.turn r.busy
 
 abbrev pub pile_seen : Slice Ring ghosts → View
 pile_seen p = sliced (ring_seen p.below) p.period p.slots p.wheel
+
+-- a slice of 2 in 5 over the ring, or why there is none
+abbrev pub SliceIs : Ring → Result (Slice Ring ghosts) PolicyFault → Type 0
+SliceIs r (Ok p) = (p.below ≡ r) × (p.period ≡ 5) × (p.slots ≡ 2) × Sliceable (ring_seen r) 5 2
+SliceIs r (Err f) = SliceChecked (ring_seen r) 5 2 (Err f)
 
 -- its works are the graph's times and its promises fit, or they are over 65,535
 abbrev pub PileIs : Graph → Result (Slice Ring ghosts) Fault → Type 0

@@ -11,6 +11,7 @@ pub const ENOUGH: usize = 566;
 pub fn fill(from: &mut impl Read, buffer: &mut [u8]) -> io::Result<usize>
     ensures { IfOk result (λ n. n ≤ length buffer.old) }
 {
+    // By index: read_exact refuses an input that ends early, and read_to_end needs a Vec.
     let mut used = 0;
     while used < buffer.len() {
         let n = from.read(&mut buffer[used..])?;

@@ -8,4 +8,4 @@ mod pile;
 
 pub use fault::Fault;
 pub use input::{ENOUGH, fill};
-pub use line::{ROWS, Report, Told};
+pub use line::{ROWS, Rates, Report, Told};

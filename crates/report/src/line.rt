@@ -1,28 +1,34 @@
 ghost use Rattle.std.specs.Prelude.{◌≡◌, length, Some};
-ghost use Rattle.report.specs.Lines.{kept, rate_in, held_in, AcceptedIs, ReportIs, printed, shown_of};
+ghost use Rattle.report.specs.Lines.{rate_in, held_in, RatesAre, ReportIs, printed, rates_text, shown_of};
 
 use crate::fault::Fault;
 use crate::pile::pile;
 use bench::{Rate, Sample, follow, unhindered_rate};
 use graph::Graph;
-use policy::Policy;
 use std::fmt;
 
 // How many rows a run has for its samples.
 pub const ROWS: usize = 256;
 
 // What rate told of a run.
-#[derive(Clone, Copy)]
+#[derive(Clone, Copy, PartialEq, Eq, Debug)]
 pub struct Told {
     pub answer: Result<Rate, Fault>,
 }
 
+// The rates of a graph.
+#[derive(Clone, Copy, PartialEq, Eq, Debug)]
+pub struct Rates {
+    // of the unhindered run
+    pub rate: Told,
+    // of the run that a shared card promises
+    pub held: Told,
+}
+
 // What a file comes to: the rates of its graph, or why it is refused.
-#[derive(Clone, Copy)]
-pub enum Report {
-    // of the unhindered run, and of the run that a shared card promises
-    Rated(Told, Told),
-    Refused(Fault),
+#[derive(Clone, Copy, PartialEq, Eq, Debug)]
+pub struct Report {
+    pub answer: Result<Rates, Fault>,
 }
 
 // Rows to lend.
@@ -32,48 +38,32 @@ fn rows() -> [Sample; ROWS]
     [Sample::BLANK; ROWS]
 }
 
-// The answer, with a fault of the bench kept whole.
-fn keep(answer: Result<Rate, bench::Fault>) -> Result<Rate, Fault>
-    ensures { result ≡ kept answer }
+// The rates of a graph: unhindered, and as its actors are promised on a shared card.
+fn rated(graph: &Graph) -> Rates
+    ensures rate { result.rate.answer ≡ rate_in graph.now }
+    ensures held { result.held.answer ≡ held_in graph.now }
 {
-    let rate = answer?;
-    Ok(rate)
+    let (rate, held) = match pile(graph) {
+        Ok(pile) => {
+            let both = follow(graph, pile, &[], &mut [], &mut rows(), &mut rows());
+            (both.unhindered, both.promised.map_err(Fault::from))
+        }
+        Err(fault) => (unhindered_rate(graph, &mut rows()), Err(fault)),
+    };
+    Rates {
+        rate: Told {
+            answer: rate.map_err(Fault::from),
+        },
+        held: Told { answer: held },
+    }
 }
 
-// The graph that the bytes are the file of.
-fn accepted(bytes: &[u8]) -> Result<Graph, Fault>
-    ensures { AcceptedIs bytes.now result }
+// The rates of the graph that the bytes are the file of.
+fn rates_of(bytes: &[u8]) -> Result<Rates, Fault>
+    ensures { RatesAre bytes.now result }
 {
     let graph = Graph::read(bytes)?;
-    Ok(graph)
-}
-
-// The rates of a graph: unhindered, and as its actors are promised on a shared card.
-fn rated(graph: &Graph) -> (Told, Told)
-    ensures rate { result.0.answer ≡ rate_in graph.now }
-    ensures held { result.1.answer ≡ held_in graph.now }
-{
-    let mut rate_rows = rows();
-    match pile(graph) {
-        Ok(pile) => {
-            let mut held_rows = rows();
-            let both = follow(graph, pile, &[], &mut [], &mut rate_rows, &mut held_rows);
-            let rate = Told {
-                answer: keep(both.unhindered),
-            };
-            let held = Told {
-                answer: keep(both.promised),
-            };
-            (rate, held)
-        }
-        Err(fault) => {
-            let rate = Told {
-                answer: keep(unhindered_rate(graph, &mut rate_rows)),
-            };
-            let held = Told { answer: Err(fault) };
-            (rate, held)
-        }
-    }
+    Ok(rated(&graph))
 }
 
 impl Report {
@@ -81,12 +71,8 @@ impl Report {
     pub fn of(bytes: &[u8]) -> Report
         ensures { ReportIs bytes.now result }
     {
-        match accepted(bytes) {
-            Ok(graph) => {
-                let (rate, held) = rated(&graph);
-                Report::Rated(rate, held)
-            }
-            Err(fault) => Report::Refused(fault),
+        Report {
+            answer: rates_of(bytes),
         }
     }
 }
@@ -98,11 +84,17 @@ impl fmt::Display for Told {
         match self.answer {
             Ok(Rate::Repeats { f: from, d, m }) => write!(f, "{from} {d} {m}"),
             Ok(Rate::Standstill { f: from }) => write!(f, "stop {from}"),
-            Err(fault) => {
-                let number = fault.number();
-                write!(f, "none {number}")
-            }
+            Err(fault) => write!(f, "none {}", fault.number()),
         }
+    }
+}
+
+impl fmt::Display for Rates {
+    ghost output = { λ r. Some (rates_text r) };
+
+    fn fmt<W: fmt::Write>(&self, f: &mut fmt::Formatter<W>) -> fmt::Result {
+        let Rates { rate, held } = self;
+        write!(f, "RATE {rate}\nHELD {held}")
     }
 }
 
@@ -110,14 +102,9 @@ impl fmt::Display for Report {
     ghost output = { λ r. Some (shown_of r) };
 
     fn fmt<W: fmt::Write>(&self, f: &mut fmt::Formatter<W>) -> fmt::Result {
-        match self {
-            Report::Rated(rate, held) => write!(f, "RATE {rate}\nHELD {held}"),
-            Report::Refused(fault) => {
-                let layer = fault.layer();
-                let number = fault.number();
-                let place = fault.place();
-                write!(f, "FAULT {layer} {number} {place}")
-            }
+        match &self.answer {
+            Ok(rates) => write!(f, "{rates}"),
+            Err(fault) => write!(f, "FAULT {fault}"),
         }
     }
 }

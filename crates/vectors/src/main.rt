@@ -2,26 +2,31 @@
 // What it should print comes from tools/oracle.py.
 #![tactic(auto)]
 
-ghost use Rattle.std.specs.Prelude.{◌<◌, ◌≤◌, length};
+ghost use Rattle.std.specs.Prelude.{◌≡◌, ◌<◌, length};
 
 use report::{ENOUGH, Report, fill};
 
+// The report on the file with one of its bytes set to a value.
+fn damaged(file: &mut [u8], at: usize, value: u8) -> Report
+    requires { at < length file.old }
+    ensures { length file.new ≡ length file.old }
+{
+    file[at] = value;
+    Report::of(file)
+}
+
 // The reports on the file with one of its bytes set to each value, a line for values in a row with the same report.
-fn damage(rt: &HostRuntime, file: &mut [u8], at: usize) -> anyhow::Result<()>
+fn damage(rt: &impl Print, file: &mut [u8], at: usize) -> anyhow::Result<()>
     requires { at < length file.old }
 {
     let good = file[at];
-    let mut said = String::new(rt.alloc());
     let mut first = 0;
-    for value in 0..=255 {
-        file[at] = value;
-        let report = Report::of(file);
-        let says = format!(in rt.alloc(); "{report}")?;
+    let mut said = damaged(file, at, first);
+    for value in 1..=255 {
+        let says = damaged(file, at, value);
         if says != said {
-            if value > 0 {
-                let last = value - 1;
-                println!(rt; "byte {at}, {first} to {last}: {said}")?;
-            }
+            let last = value - 1;
+            println!(rt; "byte {at}, {first} to {last}: {said}")?;
             first = value;
             said = says;
         }
@@ -31,21 +36,18 @@ fn damage(rt: &HostRuntime, file: &mut [u8], at: usize) -> anyhow::Result<()>
     Ok(())
 }
 
-fn run(rt: &HostRuntime) -> anyhow::Result<()> {
+fn main(rt: HostRuntime) -> anyhow::Result<()> {
+    // A buffer and its size: a Vec could run out of memory, and this program cannot.
     let mut buffer = [0; ENOUGH];
-    let mut input = rt.stdin();
-    let size = fill(&mut input, &mut buffer)?;
-    let file = &mut buffer[0..size];
+    let size = fill(&mut rt.stdin(), &mut buffer)?;
+    let file = &mut buffer[..size];
     for cut in 0..file.len() {
-        let report = Report::of(&file[0..cut]);
+        let report = Report::of(&file[..cut]);
         println!(rt; "cut {cut}: {report}")?;
     }
+    // By index: each turn writes the file, which an iterator over it would hold.
     for at in 0..file.len() {
-        damage(rt, file, at)?;
+        damage(&rt, file, at)?;
     }
     Ok(())
-}
-
-fn main(rt: HostRuntime) -> anyhow::Result<()> {
-    run(&rt)
 }
