@@ -1,11 +1,11 @@
 -- How the moves of each actor come to stand together, store by store. Assumes nothing.
-use Rattle.std.proofs.Common.{◌≡◌, ◌≢◌, ℕ, zero, suc, ◌+◌, ◌<◌, ◌≤◌, true, false, ◌==◌, Option, Some, None, List, [], ◌∷◌, ◌++◌, length, set, refl, sym, ap, ◌∙◌, inl, inr, arith, length-set, get_or, get_or-set_same}
+use Rattle.std.proofs.Common.{◌≡◌, ◌≢◌, ℕ, zero, suc, ◌+◌, ◌<◌, ◌≤◌, true, false, Some, None, List, [], ◌∷◌, ◌++◌, length, set, refl, sym, ap, ◌∙◌, inl, inr, arith, length-set, get_or, get_or-set_same}
 use Rattle.std.specs.List.{slice_get}
 use Rattle.std.proofs.lemmas.Bool.{cases_eq, and_from, and_left, and_right, lt-ltb, le-ltb, eq-eqb, ne_eqb}
 use Rattle.std.proofs.lemmas.Option.{slice_get_read, slice_get-get_or}
 use Rattle.leaps.specs.declared.store.Store.{Store}
 use Rattle.leaps.specs.declared.list.MoveList.{MoveList}
-use Rattle.leaps.specs.Stores.{store_at, some_is, is_of, move_at, moves_at, moves_in, moves_if, list_at}
+use Rattle.leaps.specs.Stores.{store_at, is_of, move_at, moves_at, moves_in, moves_if, list_at}
 use Rattle.leaps.proofs.Listed.{moves_few, moves_more, moves_stay}
 
 -- the moves at the first k stores

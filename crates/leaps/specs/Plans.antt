@@ -6,7 +6,7 @@
 -- wakes_at  a mark of a table of rows of marks
 -- Wakes     an end of an actor may make itself ready, and the actors at the other ends of its channels
 -- PlanIs    the plan of so many actors with these channels
-use Rattle.std.specs.Prelude.{◌≡◌, ℕ, ◌+◌, ◌<◌, ◌≤◌, Bool, true, ◌⊎◌, Option, Some, List, [], length, slice_index_or}
+use Rattle.std.specs.Prelude.{◌≡◌, ℕ, ◌+◌, ◌<◌, ◌≤◌, Bool, true, ◌⊎◌, Some, List, [], length, slice_index_or}
 use Rattle.graph.specs.declared.channel.Channel.{Channel}
 use Rattle.runs.specs.Loops.{flag}
 use Rattle.runs.specs.Seen.{channel_at}

@@ -1,5 +1,5 @@
-use Rattle.std.proofs.Common.{◌≡◌, length, arith, subst, refl}
-use Rattle.leaps.proofs.Gathers.{Gathered, gathered_none, gathered_above, gathered_more, gathered_room}
+use Rattle.std.proofs.Common.{◌≡◌, length, arith}
+use Rattle.leaps.proofs.Gathers.{gathered_none, gathered_above, gathered_more, gathered_room}
 use Rattle.leaps.proofs.moves.Moves.of.Goals as goal
 use Rattle.leaps.proofs.moves.Moves.of.Goals.{in-Some+then-a-lt16, in-Some+else-a-lt16, in_default}
 
