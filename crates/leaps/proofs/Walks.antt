@@ -8,11 +8,11 @@ use Rattle.runs.specs.Seen.{at}
 use Rattle.leaps.specs.declared.list.Move.{Move}
 use Rattle.leaps.specs.declared.moves.Moves.{Moves}
 use Rattle.leaps.specs.Stores.{moved, list_at}
-use Rattle.leaps.specs.Moves.{MovesOfActor, Moved}
+use Rattle.leaps.specs.Moves.{IsWalk, Moved}
 use Rattle.leaps.proofs.Listed.{moves_within, moves_sum}
 
-pub moves_of_actor : (m : Moves) (a : ℕ) (ms : List Move) → length m.stores ≡ 64 → ms ≡ list_at m.lists a → MovesOfActor m a ms
-moves_of_actor m a ms size is =
+pub is_walk : (m : Moves) (a : ℕ) (ms : List Move) → length m.stores ≡ 64 → ms ≡ list_at m.lists a → IsWalk m a ms
+is_walk m a ms size is =
     let e : ms ≡ list_at m.lists a = is in
     rw (is, m.listed a) (record {
       moves = refl;
@@ -51,5 +51,5 @@ module _ (ms : List Move) (i : ℕ) (d : Move) (lt : i < length ms) where
     ]);
   }
 
-pub walked_all : (f : ℕ → ℕ → ℕ) (m : Moves) (a : ℕ) (ms : List Move) (i : ℕ) (xs ys : List ℕ) → length ms ≤ i → MovesOfActor m a ms → Walked f ms i xs ys → Moved f m a xs ys
+pub walked_all : (f : ℕ → ℕ → ℕ) (m : Moves) (a : ℕ) (ms : List Move) (i : ℕ) (xs ys : List ℕ) → length ms ≤ i → IsWalk m a ms → Walked f ms i xs ys → Moved f m a xs ys
 walked_all f m a ms i xs ys le h w = record { size = w.size; are = λ e lt. w.are e lt ∙ ap (f (at xs e)) (ap (sum_by (moved e)) (take_all i ms le) ∙ h.rates e lt) }

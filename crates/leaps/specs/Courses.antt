@@ -5,14 +5,14 @@
 -- can_start   a woken actor is ready
 -- StartedOne  the actor has started, if it can
 -- Started     so have all below i
--- Woken       an end has marked the actors below i that it may make ready
+-- Woken       an end has marked those below i of the actors that it may make ready
 -- Roomy       what an end gives finds room
--- comes_at    an end to come is at a tick
 -- is_over     the actor's firing ends at a tick
 -- EndedOne    the actor's firing has ended, if it is over
 -- Ended       so have those of all below i
 -- Soonest     the least tick of an end among the actors below i, if one is to come
 use Rattle.std.specs.Prelude.{◌≡◌, ℕ, ◌+◌, ◌-◌, ◌<◌, ◌≤◌, Bool, true, false, if◌then◌else◌, ◌&&◌, ◌||◌, Option, Some, None, IsSomeAnd, is_none, List, length, ◌==◌, nat_lt, slice_index_or}
+use Rattle.std.specs.Option.{option_map_or}
 use Rattle.model.specs.Net.{when}
 use Rattle.runs.specs.Loops.{flag}
 use Rattle.runs.specs.Seen.{at}
@@ -41,20 +41,16 @@ pub record Started (m : Moves) (i : ℕ) (times : List ℕ) (tick : ℕ) (k z : 
   pub until : (b : ℕ) → until_at z b ≡ (if nat_lt b i && can_start m k b then Some (tick + at times b) else until_at k b)
   pub woken : z.woken ≡ k.woken
 
-pub record Woken (i : ℕ) (wakes : List (List Bool)) (a : ℕ) (xs ys : List Bool) : Type 0 where
+pub record Woken (i : ℕ) (wakes xs ys : List Bool) : Type 0 where
   pub size : length ys ≡ 16
-  pub are : (b : ℕ) → b < i → flag ys b ≡ (flag xs b || wakes_at wakes a b)
+  pub are : (b : ℕ) → b < i → flag ys b ≡ (flag xs b || flag wakes b)
   pub stay : (b : ℕ) → i ≤ b → flag ys b ≡ flag xs b
 
 abbrev pub Roomy : Moves → ℕ → Course → Type 0
 Roomy m a k = (e : ℕ) → e < 64 → at k.levels e + rate_at m.stores a e < 65536
 
-abbrev pub comes_at : Option ℕ → ℕ → Bool
-comes_at None tick = false
-comes_at (Some end) tick = end == tick
-
 abbrev pub is_over : Course → ℕ → ℕ → Bool
-is_over k tick a = comes_at (until_at k a) tick
+is_over k tick a = option_map_or (λ end. end == tick) (until_at k a) false
 
 pub record EndedOne (m : Moves) (wakes : List (List Bool)) (a tick : ℕ) (k z : Course) : Type 0 where
   pub levels : (e : ℕ) → e < 64 → at z.levels e ≡ at k.levels e + when (is_over k tick a) (rate_at m.stores a e)

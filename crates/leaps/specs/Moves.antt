@@ -7,7 +7,7 @@ use Rattle.leaps.specs.Stores.{rate_at, moves_of, moved}
 use Rattle.leaps.specs.declared.moves.Moves.{Moves}
 
 -- the moves of the actor, each at one of the stores; together they move its rate at each
-pub record MovesOfActor (m : Moves) (a : ℕ) (ms : List Move) : Type 0 where
+pub record IsWalk (m : Moves) (a : ℕ) (ms : List Move) : Type 0 where
   pub moves : ms ≡ moves_of m.stores a
   pub within : All (λ v. v.store < 64) ms
   pub rates : (e : ℕ) → e < 64 → sum_by (moved e) ms ≡ rate_at m.stores a e

@@ -8,7 +8,7 @@ pub struct Move {
     pub rate: u16,
 }
 
-// A length stands beside them, since the library allocates nothing, and the kit's ArrayVec is not Copy, as a plan is.
+// A length beside its buffer: no heap, and with the kit's ArrayVec, which needs none, a plan could not be Copy.
 #[derive(Clone, Copy)]
 pub struct MoveList {
     moves: [Move; 64],
@@ -19,12 +19,12 @@ pub struct MoveList {
 impl MoveList {
     ghost use Rattle.leaps.specs.Stores.{moves_in};
 
-    pub const EMPTY: MoveList = MoveList {
+    pub(crate) const EMPTY: MoveList = MoveList {
         moves: [Move { store: 0, rate: 0 }; 64],
         len: 0,
     };
 
-    pub fn push(&mut self, m: Move)
+    pub(crate) fn push(&mut self, m: Move)
         requires { length (moves_in self.old) < 64 }
         ensures { moves_in self.new ≡ moves_in self.old ++ m ∷ [] }
     {
@@ -32,7 +32,7 @@ impl MoveList {
         self.len += 1;
     }
 
-    pub fn as_slice(&self) -> &[Move]
+    pub(crate) fn as_slice(&self) -> &[Move]
         ensures { result.now ≡ moves_in self.now }
     {
         &self.moves[..self.len as usize]

@@ -2,7 +2,7 @@
 ghost use Rattle.std.specs.Prelude.{◌≡◌, ℕ, ◌+◌, ◌-◌, ◌<◌, ◌≤◌};
 ghost use Rattle.runs.specs.Seen.{at};
 ghost use Rattle.leaps.specs.Stores.{rate_at};
-ghost use Rattle.leaps.specs.Moves.{MovesOfActor, Moved, has_all};
+ghost use Rattle.leaps.specs.Moves.{IsWalk, Moved, has_all};
 
 use crate::list::Move;
 use crate::moves::Moves;
@@ -10,7 +10,7 @@ use crate::moves::Moves;
 impl Moves {
     // The moves of an actor; one that is not among the 16 has none.
     fn of_actor(&self, a: usize) -> &[Move]
-        ensures { MovesOfActor self.now a result.now }
+        ensures { IsWalk self.now a result.now }
     {
         match self.lists.get(a) {
             Some(list) => list.as_slice(),
@@ -18,7 +18,8 @@ impl Moves {
         }
     }
 
-    // Adds the actor's rate at each of its stores.
+    // Adds the actor's rate at each of its stores. Not one walk with the taking: a sum has to fit and a difference may not pass 0,
+    // and of a shared one each caller would have to show what its closure asks.
     pub fn give(&self, a: usize, levels: &mut [u16; 64])
         requires room { (e : ℕ) → e < 64 → at levels.old e + rate_at self.now.stores a e < 65536 }
         ensures { Moved ◌+◌ self.now a levels.old levels.new }

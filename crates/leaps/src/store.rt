@@ -8,7 +8,7 @@ pub struct Store {
 }
 
 impl Store {
-    pub const NOBODYS: Store = Store {
+    pub(crate) const NOBODYS: Store = Store {
         owner: None,
         rate: 0,
     };
