@@ -1,106 +1,69 @@
 -- How the moves of each actor come to stand together, store by store. Assumes nothing.
-use Rattle.std.proofs.Common.{◌≡◌, ℕ, ◌+◌, ◌*◌, ◌<◌, ◌≤◌, ◌≢◌, List, length, set, sym, ap, ◌∙◌, inl, inr, arith, length-set, get_or-set_other, get_or-set_same}
-use Rattle.std.proofs.lemmas.Bool.{cases_eq}
-use Rattle.runs.specs.Seen.{at}
+use Rattle.std.proofs.Common.{◌≡◌, ◌≢◌, ℕ, zero, suc, ◌+◌, ◌<◌, ◌≤◌, true, false, Option, Some, None, List, [], ◌∷◌, ◌++◌, length, set, refl, sym, ap, ◌∙◌, inl, inr, arith, length-set, get_or, get_or-set_same}
+use Rattle.std.specs.List.{slice_get}
+use Rattle.std.specs.Option.{option_map_or}
+use Rattle.std.proofs.lemmas.Bool.{cases_eq, and_from, and_left, and_right, lt-ltb, le-ltb, eq-eqb, ne_eqb}
+use Rattle.std.proofs.lemmas.Option.{slice_get_read, slice_get-get_or}
+use Rattle.leaps.specs.declared.store.Store.{Store}
+use Rattle.leaps.specs.declared.list.Move.{Move}
+use Rattle.leaps.specs.declared.list.MoveList.{MoveList}
+use Rattle.leaps.specs.Stores.{store_at, is_of, move_at, moves_below, moves_in, list_at}
+use Rattle.leaps.proofs.Listed.{moves_few, moves_more, moves_stay}
 
--- the moves at the stores below k
-pub record Gathered (k : ℕ) (owner rate len store amount place : List ℕ) : Type 0 where
-  pub sizes : (length len ≡ 16) × (length store ≡ 1024) × (length amount ≡ 1024) × (length place ≡ 64)
-  pub few : (a : ℕ) → at len a ≤ k
-  pub within : (a i : ℕ) → (a < 16) × (i < at len a) → at store (a * 64 + i) < k
-  pub owned : (a i : ℕ) → (a < 16) × (i < at len a) → at owner (at store (a * 64 + i)) ≡ a
-  pub placed : (a i : ℕ) → (a < 16) × (i < at len a) → at place (at store (a * 64 + i)) ≡ i
-  pub rated : (a i : ℕ) → (a < 16) × (i < at len a) → at amount (a * 64 + i) ≡ at rate (at store (a * 64 + i))
-  pub listed : (e : ℕ) → (e < k) × (at owner e < 16) → at place e < at len (at owner e)
-  pub found : (e : ℕ) → (e < k) × (at owner e < 16) → at store (at owner e * 64 + at place e) ≡ e
+-- the moves in a list, if there is one
+abbrev pub held : Option MoveList → List Move
+held l = option_map_or moves_in l []
 
-at_same : (xs : List ℕ) (i x : ℕ) → i < length xs → at (set xs i x) i ≡ x
-at_same xs i x lt = get_or-set_same xs i x 0 lt
+-- the moves at the first k stores
+pub record Gathered (k : ℕ) (ss : List Store) (ls : List MoveList) : Type 0 where
+  pub size : length ls ≡ 16
+  pub are : (a : ℕ) → list_at ls a ≡ moves_below k ss a
 
-at_other : (xs : List ℕ) (i k x : ℕ) → k ≢ i → at (set xs i x) k ≡ at xs k
-at_other xs i k x ne = get_or-set_other xs i k x 0 ne
+get-set_other : {X : Type 0} (xs : List X) (i j : ℕ) (y : X) → j ≢ i → slice_get (set xs i y) j ≡ slice_get xs j
+get-set_other [] i j y ne = refl
+get-set_other (x ∷ xs) zero zero y ne = absurd (ne refl)
+get-set_other (x ∷ xs) zero (suc j) y ne = refl
+get-set_other (x ∷ xs) (suc i) zero y ne = refl
+get-set_other (x ∷ xs) (suc i) (suc j) y ne = get-set_other xs i j y (λ e. ne (ap suc e))
 
-module _ (owner rate : List ℕ) (k : ℕ) (len store amount place : List ℕ) (h : Gathered k owner rate len store amount place) where
-  -- store k is nobody's
-  pub gathered_past : 16 ≤ at owner k → Gathered (k + 1) owner rate len store amount place
-  gathered_past out = record {
-    sizes = h.sizes;
-    few = λ a. omega (arith, h.few a);
-    within = λ a i x. omega (arith, h.within a i x);
-    owned = h.owned;
-    placed = h.placed;
-    rated = h.rated;
-    listed = λ e (lt, own). h.listed e (let ne : e ≢ k = λ is. omega (arith, ap (at owner) is) in omega arith, own);
-    found = λ e (lt, own). h.found e (let ne : e ≢ k = λ is. omega (arith, ap (at owner) is) in omega arith, own);
-  }
+module _ (k : ℕ) (ss : List Store) (ls : List MoveList) (h : Gathered k ss ls) where
+  -- the next store is nobody's
+  gathered_past : ((a : ℕ) → is_of a (store_at ss k) ≡ false) → Gathered (k + 1) ss ls
+  gathered_past none = record { size = h.size; are = λ a. h.are a ∙ sym (moves_stay ss a k (none a)) }
 
-  -- it is the next of its owner
-  module _ (a : ℕ) (own : at owner k ≡ a) (ha : a < 16) (hk : k < 64) where
-    abbrev next : ℕ
-    next = a * 64 + at len a
+  pub gathered_none : (store_at ss k).owner ≡ None → Gathered (k + 1) ss ls
+  gathered_none owner = gathered_past (λ a. rw owner refl)
 
-    spot : next < 1024
-    spot = omega (arith, h.few a)
+  pub gathered_above : (b : ℕ) → (store_at ss k).owner ≡ Some b → 16 ≤ b → Gathered (k + 1) ss ls
+  gathered_above b owner le = gathered_past (λ a. rw owner (and_left _ _ (le-ltb b 16 le)))
 
-    len_same : at (set len a (at len a + 1)) a ≡ at len a + 1
-    len_same = at_same len a _ (omega (arith, h.sizes.0))
+  module _ (b : ℕ) (hb : b < 16) (d : MoveList) where
+    lt : b < length ls
+    lt = omega (arith, h.size)
 
-    store_same : at (set store next k) next ≡ k
-    store_same = at_same store next k (omega (arith, spot, h.sizes.1))
+    old : list_at ls b ≡ moves_in (get_or ls b d)
+    old = ap held (slice_get-get_or ls b d lt)
 
-    amount_same : at (set amount next (at rate k)) next ≡ at rate k
-    amount_same = at_same amount next _ (omega (arith, spot, h.sizes.2))
+    -- there is room for a move more
+    pub gathered_room : k < 64 → length (moves_in (get_or ls b d)) < 64
+    gathered_room hk = rw (← old, h.are b) (omega (arith, moves_few ss b k))
 
-    place_same : at (set place k (at len a)) k ≡ at len a
-    place_same = at_same place k _ (omega (arith, h.sizes.3))
+    module _ (owner : (store_at ss k).owner ≡ Some b) (l : MoveList) (push : moves_in l ≡ moves_in (get_or ls b d) ++ move_at ss k ∷ []) where
+      new : list_at (set ls b l) b ≡ moves_in l
+      new = ap held (slice_get_read (set ls b l) 16 b l (sym (simp length-set h.size)) hb (sym (get_or-set_same ls b l l lt)))
 
-    -- a move is the new one, or an old one
-    module _ (P : ℕ → ℕ → Type 0) (new : P a (at len a)) (old : (b i : ℕ) → (b < 16) × (i < at len b) → (b * 64 + i) ≢ next → P b i) where
-      each : (b i : ℕ) → (b < 16) × (i < at (set len a (at len a + 1)) b) → P b i
-      each b i (hb, lt) = elim (cases_eq b a) [
-        | inl is ↦ elim (cases_eq i (at len a)) [
-          | inl same ↦ rw (is, same) new
-          | inr ne ↦ rw is (old a i (ha, omega (arith, len_same, ap (at (set len a (at len a + 1))) is)) (omega arith))
-        ]
-        | inr ne ↦
-            let e = at_other len a b (at len a + 1) ne in
-            let hi : i < at len b = omega arith in
-            old b i (hb, hi) (omega (arith, h.few b, h.few a))
-      ]
+      mine : is_of b (store_at ss k) ≡ true
+      mine = rw owner (and_from _ _ (lt-ltb b 16 hb) (eq-eqb b b refl))
 
-    pub gathered_more : Gathered (k + 1) owner rate (set len a (at len a + 1)) (set store next k) (set amount next (at rate k)) (set place k (at len a))
-    gathered_more = record {
-      sizes = (simp length-set h.sizes.0, simp length-set h.sizes.1, simp length-set h.sizes.2, simp length-set h.sizes.3);
-      few = λ b. elim (cases_eq b a) [ inl is ↦ rw is (omega (arith, len_same, h.few a)) | inr ne ↦ omega (arith, at_other len a b (at len a + 1) ne, h.few b) ];
-      within = each (λ b i. at (set store next k) (b * 64 + i) < k + 1) (omega (arith, store_same))
-          (λ b i x ne. omega (arith, at_other store next (b * 64 + i) k ne, h.within b i x));
-      owned = each (λ b i. at owner (at (set store next k) (b * 64 + i)) ≡ b) (ap (at owner) store_same ∙ own)
-          (λ b i x ne. ap (at owner) (at_other store next (b * 64 + i) k ne) ∙ h.owned b i x);
-      placed = each (λ b i. at (set place k (at len a)) (at (set store next k) (b * 64 + i)) ≡ i) (ap (at (set place k (at len a))) store_same ∙ place_same)
-          (λ b i x ne. ap (at (set place k (at len a))) (at_other store next (b * 64 + i) k ne)
-          ∙ at_other place k _ (at len a) (omega (arith, h.within b i x)) ∙ h.placed b i x);
-      rated = each (λ b i. at (set amount next (at rate k)) (b * 64 + i) ≡ at rate (at (set store next k) (b * 64 + i))) (amount_same ∙ sym (ap (at rate) store_same))
-          (λ b i x ne. at_other amount next (b * 64 + i) (at rate k) ne ∙ h.rated b i x ∙ sym (ap (at rate) (at_other store next (b * 64 + i) k ne)));
-      listed = λ e (lt, x). elim (cases_eq e k) [
-        | inl is ↦ rw (is, place_same, own, len_same) (omega arith)
-        | inr ne ↦
-            let p = at_other place k e (at len a) ne in
-            let l = h.listed e (omega arith, x) in
-            elim (cases_eq (at owner e) a) [
-              | inl mine ↦ rw (p, mine, len_same) (omega (arith, ap (at len) mine))
-              | inr other ↦ omega (arith, p, at_other len a (at owner e) (at len a + 1) other)
-            ]
-      ];
-      found = λ e (lt, x). elim (cases_eq e k) [
-        | inl is ↦ rw (is, place_same, own) store_same
-        | inr ne ↦
-            let l = h.listed e (omega arith, x) in
-            rw (at_other place k e (at len a) ne) (at_other store next (at owner e * 64 + at place e) k (apart e l) ∙ h.found e (omega arith, x))
-      ];
-    }
-      where
-        apart : (e : ℕ) → at place e < at len (at owner e) → (at owner e * 64 + at place e) ≢ next
-        apart e l is = elim (cases_eq (at owner e) a) [
-          | inl mine ↦ omega (arith, ap (at len) mine)
-          | inr other ↦ omega (arith, h.few (at owner e), h.few a)
-        ]
+      others : (a : ℕ) → b ≢ a → is_of a (store_at ss k) ≡ false
+      others a ne = rw owner (and_right _ _ (ne_eqb b a ne))
+
+      -- it is b's
+      pub gathered_more : Gathered (k + 1) ss (set ls b l)
+      gathered_more = record {
+        size = simp length-set h.size;
+        are = λ a. elim (cases_eq b a) [
+          | inl e ↦ rw (← e) (new ∙ push ∙ ap (λ ms. ms ++ move_at ss k ∷ []) (sym old ∙ h.are b) ∙ sym (moves_more ss b k mine))
+          | inr ne ↦ ap held (get-set_other ls b a l (λ e. ne (sym e))) ∙ h.are a ∙ sym (moves_stay ss a k (others a ne))
+        ];
+      }

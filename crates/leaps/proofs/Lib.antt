@@ -1,3 +1,4 @@
-mod Walks
+mod Listed
 mod Gathers
+mod Walks
 mod Plans

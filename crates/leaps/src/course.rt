@@ -1,13 +1,10 @@
-// The tick of an end that is not to come.
-pub const NEVER: u32 = u32::MAX;
-
 // What stands in a run between two ends.
 #[derive(Clone, Copy)]
 pub struct Course {
     // By store: tokens by channel, and from 32 on free places by channel.
     pub levels: [u16; 64],
-    // By actor: the tick at which its firing under way ends, or NEVER.
-    pub until: [u32; 16],
+    // By actor: the tick at which its firing under way ends, if it has one.
+    pub until: [Option<u32>; 16],
     // By actor: whether it may have become ready.
     pub woken: [bool; 16],
 }
@@ -16,7 +13,7 @@ impl Course {
     // Nothing stands anywhere.
     pub const REST: Course = Course {
         levels: [0; 64],
-        until: [NEVER; 16],
+        until: [None; 16],
         woken: [true; 16],
     };
 }

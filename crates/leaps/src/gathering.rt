@@ -1,48 +1,26 @@
 // How the moves of each actor come to stand together.
-ghost use Rattle.std.specs.Prelude.{◌≡◌, ℕ, ◌<◌, ◌≤◌, length, replicate};
+ghost use Rattle.std.specs.Prelude.{◌≡◌};
 
+use crate::list::{Move, MoveList};
 use crate::moves::Moves;
-
-// Places for the stores of all moves.
-fn stores() -> [u8; 1024]
-    ensures { result ≡ replicate 1024 0 }
-{
-    [0; 1024]
-}
-
-// Places for the rates of all moves.
-fn amounts() -> [u16; 1024]
-    ensures { result ≡ replicate 1024 0 }
-{
-    [0; 1024]
-}
+use crate::store::Store;
 
 impl Moves {
     // The moves at these stores; a store without an owner below 16 is nobody's.
-    pub fn of(owner: [u8; 64], rate: [u16; 64]) -> Moves
-        ensures { (result.owner ≡ owner) × (result.rate ≡ rate) }
+    pub fn of(stores: [Store; 64]) -> Moves
+        ensures { result.stores ≡ stores }
     {
-        let mut len = [0; 16];
-        let mut place = [0; 64];
-        let mut store = stores();
-        let mut amount = amounts();
-        for e in 0..64 {
-            let a = owner[e] as usize;
-            if a < 16 {
-                let i = len[a];
-                store[a * 64 + i as usize] = e as u8;
-                amount[a * 64 + i as usize] = rate[e];
-                place[e] = i;
-                len[a] = i + 1;
+        let mut lists = [MoveList::EMPTY; 16];
+        for (e, store) in stores.iter().enumerate() {
+            if let Some(a) = store.owner {
+                if a < 16 {
+                    lists[a as usize].push(Move {
+                        store: e as u8,
+                        rate: store.rate,
+                    });
+                }
             }
         }
-        Moves {
-            owner,
-            rate,
-            len,
-            store,
-            amount,
-            place,
-        }
+        Moves { stores, lists }
     }
 }

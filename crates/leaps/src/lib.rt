@@ -3,10 +3,12 @@
 
 mod course;
 mod gathering;
+mod list;
 mod moves;
 mod moving;
 mod plan;
 mod planning;
+mod store;
 
-pub use course::{Course, NEVER};
+pub use course::Course;
 pub use plan::Plan;

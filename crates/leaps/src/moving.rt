@@ -1,49 +1,50 @@
 // What a firing of an actor does to its stores.
-ghost use Rattle.std.specs.Prelude.{◌≡◌, ℕ, ◌+◌, ◌-◌, ◌<◌, ◌≤◌, length};
+ghost use Rattle.std.specs.Prelude.{◌≡◌, ℕ, ◌+◌, ◌-◌, ◌<◌, ◌≤◌};
 ghost use Rattle.runs.specs.Seen.{at};
-ghost use Rattle.leaps.specs.Moves.{Moved, has_all};
+ghost use Rattle.leaps.specs.Stores.{rate_at};
+ghost use Rattle.leaps.specs.Moves.{IsWalk, Moved, has_all};
 
+use crate::list::Move;
 use crate::moves::Moves;
 
 impl Moves {
-    // Adds the actor's rate at each of its stores.
+    // The moves of an actor; one that is not among the 16 has none.
+    fn of_actor(&self, a: usize) -> &[Move]
+        ensures { IsWalk self.now a result.now }
+    {
+        match self.lists.get(a) {
+            Some(list) => list.as_slice(),
+            None => &[],
+        }
+    }
+
+    // Adds the actor's rate at each of its stores. Not one walk with the taking: a sum has to fit and a difference may not pass 0,
+    // and of a shared one each caller would have to show what its closure asks.
     pub fn give(&self, a: usize, levels: &mut [u16; 64])
-        requires actor { a < 16 }
-        requires size { length levels.old ≡ 64 }
-        requires room { (e : ℕ) → e < 64 → at self.now.owner e ≡ a → at levels.old e + at self.now.rate e < 65536 }
+        requires room { (e : ℕ) → e < 64 → at levels.old e + rate_at self.now.stores a e < 65536 }
         ensures { Moved ◌+◌ self.now a levels.old levels.new }
     {
-        let base = a * 64;
-        for i in 0..self.len[a] as usize {
-            levels[self.store[base + i] as usize] += self.amount[base + i];
+        for m in self.of_actor(a) {
+            levels[m.store as usize] += m.rate;
         }
     }
 
     // Takes the actor's rate at each of its stores.
     pub fn take(&self, a: usize, levels: &mut [u16; 64])
-        requires actor { a < 16 }
-        requires size { length levels.old ≡ 64 }
-        requires has { (e : ℕ) → e < 64 → at self.now.owner e ≡ a → at self.now.rate e ≤ at levels.old e }
+        requires has { (e : ℕ) → e < 64 → rate_at self.now.stores a e ≤ at levels.old e }
         ensures { Moved ◌-◌ self.now a levels.old levels.new }
     {
-        let base = a * 64;
-        for i in 0..self.len[a] as usize {
-            levels[self.store[base + i] as usize] -= self.amount[base + i];
+        for m in self.of_actor(a) {
+            levels[m.store as usize] -= m.rate;
         }
     }
 
     // Whether each of the actor's stores has its rate.
     pub fn has_all(&self, a: usize, levels: &[u16; 64]) -> bool
-        requires actor { a < 16 }
-        requires size { length levels.now ≡ 64 }
         ensures { result ≡ has_all self.now a levels.now }
     {
-        let base = a * 64;
-        for i in 0..self.len[a] as usize {
-            if levels[self.store[base + i] as usize] < self.amount[base + i] {
-                return false;
-            }
-        }
-        true
+        self.of_actor(a)
+            .iter()
+            .all(|m| m.rate <= levels[m.store as usize])
     }
 }

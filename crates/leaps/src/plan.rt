@@ -7,6 +7,6 @@ pub struct Plan {
     // What a start takes, and what an end gives.
     pub takes: Moves,
     pub puts: Moves,
-    // For two actors a and b, at 16 a + b: whether an end of a may make b ready.
-    pub wakes: [bool; 256],
+    // By actor, a row by actor: whether an end of the first may make the second ready.
+    pub wakes: [[bool; 16]; 16],
 }

@@ -1,12 +1,11 @@
 // How a graph's channels come to be a plan.
-ghost use Rattle.std.specs.Prelude.{◌≡◌, ℕ, ◌<◌, ◌≤◌, length};
-ghost use Rattle.graph.specs.Channels.{Every, Ends};
+ghost use Rattle.std.specs.Prelude.{◌≡◌, ◌≤◌, length};
 ghost use Rattle.runs.specs.Loops.{Bounded};
-ghost use Rattle.runs.specs.Seen.{net_of};
-ghost use Rattle.leaps.specs.Plans.{actor_at, rate_at, other, MovesOf, Wakes, PlanIs};
+ghost use Rattle.leaps.specs.Plans.{other, store_of, MovesOf, Wakes, PlanIs};
 
 use crate::moves::Moves;
 use crate::plan::Plan;
+use crate::store::Store;
 use graph::Channel;
 
 // An end of a channel.
@@ -26,23 +25,19 @@ impl End {
         }
     }
 
-    // The actor there.
-    fn actor(self, channel: Channel) -> u8
-        ensures { result ≡ actor_at self channel }
+    // The actor there, and what its firing moves.
+    fn store(self, channel: &Channel) -> Store
+        ensures { result ≡ store_of self channel.now }
     {
         match self {
-            End::Source => channel.source,
-            End::Dest => channel.dest,
-        }
-    }
-
-    // What its firing moves.
-    fn rate(self, channel: Channel) -> u8
-        ensures { result ≡ rate_at self channel }
-    {
-        match self {
-            End::Source => channel.p,
-            End::Dest => channel.q,
+            End::Source => Store {
+                owner: Some(channel.source),
+                rate: channel.p as u16,
+            },
+            End::Dest => Store {
+                owner: Some(channel.dest),
+                rate: channel.q as u16,
+            },
         }
     }
 }
@@ -50,35 +45,31 @@ impl End {
 // The moves of the actors at one end of the channels with tokens, and of those at the other end with free places.
 fn moves(channels: &[Channel], end: End) -> Moves
     requires { length channels.now ≤ 32 }
-    ensures { MovesOf end channels.now result.owner result.rate }
+    ensures { MovesOf end channels.now result.stores }
 {
-    let mut owner = [16; 64];
-    let mut rate = [0; 64];
+    let mut stores = [Store::NOBODYS; 64];
     let far = end.other();
-    for c in 0..channels.len() {
-        let channel = channels[c];
-        owner[c] = end.actor(channel);
-        rate[c] = end.rate(channel) as u16;
-        owner[32 + c] = far.actor(channel);
-        rate[32 + c] = far.rate(channel) as u16;
+    for (c, channel) in channels.iter().enumerate() {
+        stores[c] = end.store(channel);
+        stores[32 + c] = far.store(channel);
     }
-    Moves::of(owner, rate)
+    Moves::of(stores)
 }
 
 // Which actors may be ready when one has ended a firing: itself, and those at the other ends of its channels.
-fn wakes(channels: &[Channel]) -> [bool; 256]
+fn wakes(channels: &[Channel]) -> [[bool; 16]; 16]
     requires { Bounded channels.now }
     ensures { Wakes 16 (length channels.now) channels.now result }
 {
-    let mut wakes = [false; 256];
-    for a in 0..16 {
-        wakes[17 * a] = true;
+    let mut wakes = [[false; 16]; 16];
+    for (a, row) in wakes.iter_mut().enumerate() {
+        row[a] = true;
     }
-    for c in 0..channels.len() {
-        let source = channels[c].source as usize;
-        let dest = channels[c].dest as usize;
-        wakes[16 * source + dest] = true;
-        wakes[16 * dest + source] = true;
+    for channel in channels {
+        let source = channel.source as usize;
+        let dest = channel.dest as usize;
+        wakes[source][dest] = true;
+        wakes[dest][source] = true;
     }
     wakes
 }

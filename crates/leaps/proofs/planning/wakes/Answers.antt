@@ -1,8 +1,8 @@
-use Rattle.leaps.proofs.Plans.{wakes_itself, wakes_more}
+use Rattle.leaps.proofs.Plans.{waking_itself, waking_more}
 use Rattle.leaps.proofs.planning.wakes.Goals as goal
 
 pub loop-a-preserved : goal.loop-a-preserved
-loop-a-preserved c = wakes_itself c.args.channels.now c.loop-a.wakes c.loop-a.invariant.0 c.loop-a.a c.loop-a-test.true c.loop-a.invariant.1
+loop-a-preserved c = waking_itself c.args.channels.now c.loop-a.row-items c.loop-a.a c.loop-a-test.true c.loop-a.invariant
 
-pub loop-c-preserved : goal.loop-c-preserved
-loop-c-preserved c = wakes_more c.args.channels.now c.loop-c.wakes c.loop-c.invariant.0 c.loop-c.c (c.requires.1 c.loop-c.c c.loop-c-test.true) c.loop-c.invariant.1
+pub loop-channel-preserved : goal.loop-channel-preserved
+loop-channel-preserved c = waking_more c.args.channels.now c.loop-channel.wakes c.loop-channel.channel-index (c.requires.1 c.loop-channel.channel-index c.loop-channel-test.true) c.loop-channel.invariant

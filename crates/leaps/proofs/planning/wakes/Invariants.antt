@@ -1,9 +1,8 @@
-use Rattle.std.proofs.Common.{◌≡◌, length}
-use Rattle.leaps.specs.Plans.{Wakes}
+use Rattle.leaps.proofs.Plans.{Waking}
 use Rattle.leaps.proofs.planning.wakes.Given as goal
 
 abbrev pub invariant-loop-a : goal.invariant-loop-a
-invariant-loop-a l = (length l.wakes ≡ 256) × Wakes l.a 0 l.channels l.wakes
+invariant-loop-a l = Waking l.a 0 l.channels l.row-items
 
-abbrev pub invariant-loop-c : goal.invariant-loop-c
-invariant-loop-c l = (length l.wakes ≡ 256) × Wakes 16 l.c l.channels l.wakes
+abbrev pub invariant-loop-channel : goal.invariant-loop-channel
+invariant-loop-channel l = Waking 16 l.channel-index l.channels l.wakes
