@@ -8,9 +8,14 @@ use Rattle.fields.specs.declared.writing.Writer.{Writer}
 abbrev pub Placed : ℕ → List ℕ → List ℕ → List ℕ → Type 0
 Placed at w xs ys = ys ≡ take at xs ++ (w ++ drop (at + length w) xs)
 
--- `w` written at the place of a writer, which goes on after it; or it does not fit, and buffer and place are as they were
+-- `w` stands from the writer's place on, in a buffer as long, and the next field goes after it
+pub record Puts (w : List ℕ) (old new : Writer) : Type 0 where
+  pub after : new.at ≡ old.at + length w
+  pub long : length new.buffer.now ≡ length old.buffer.now
+  pub placed : Placed old.at w old.buffer.now new.buffer.now
+
+-- `w` written at the writer's place; or it does not fit, and buffer and place are as they were
 abbrev pub PutIs : List ℕ → Writer → Writer → Result (Unit {0}) Fault → Type 0
-PutIs w before after (Ok u) =
-    (after.at ≡ before.at + length w) × (after.at ≤ length before.buffer.now) × Placed before.at w before.buffer.now after.buffer.now
-PutIs w before after (Err e) =
-    (e ≡ Small) × (length before.buffer.now < before.at + length w) × (after.buffer.now ≡ before.buffer.now) × (after.at ≡ before.at)
+PutIs w old new (Ok u) = Puts w old new × (new.at ≤ length old.buffer.now)
+PutIs w old new (Err e) =
+    (e ≡ Small) × (length old.buffer.now < old.at + length w) × (new.buffer.now ≡ old.buffer.now) × (new.at ≡ old.at)

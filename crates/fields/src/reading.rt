@@ -22,8 +22,8 @@ fn value<'a>(kind: Kind, bytes: &'a [u8]) -> Option<(Field<'a>, &'a [u8])>
     }
 }
 
-// Reads the field of the kind that is due, the one of that number, and gives it with the bytes after it. The number is
-// the caller's: a reader that counted its fields would ask that the next number is one too.
+// Reads the field of the kind that is due, the one of that number, and gives it with the bytes after it. Bytes and
+// number stay apart: a reader that counts its fields would ask of callers that one more number fits a byte.
 pub fn read<'a>(bytes: &'a [u8], kind: Kind, number: u8) -> Result<(Field<'a>, &'a [u8]), Fault>
     ensures { ReadIs bytes.now kind number result }
 {

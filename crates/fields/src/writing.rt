@@ -1,6 +1,6 @@
 ghost use Rattle.std.specs.Prelude.{◌≡◌, ℕ, ◌+◌, ◌-◌, ◌<◌, ◌≤◌, [], ◌++◌, length};
 ghost use Rattle.fields.specs.Field.{size_of, kind_of, bytes_of, framed, written};
-ghost use Rattle.fields.specs.Writing.{Placed, PutIs};
+ghost use Rattle.fields.specs.Writing.{Puts, PutIs};
 
 use crate::fault::Fault;
 use crate::field::{Field, Kind};
@@ -39,8 +39,7 @@ impl<'a> Writer<'a> {
     // Puts bytes that fit at the place, and goes on after them.
     fn put(&mut self, bytes: &[u8])
         requires { self.old.at + length bytes.now ≤ length self.old.buffer.now }
-        ensures placed { Placed self.old.at bytes.now self.old.buffer.now self.new.buffer.now }
-        ensures place { self.new.at ≡ self.old.at + length bytes.now }
+        ensures done { Puts bytes.now self.old self.new }
         ensures lender { self.new.buffer.ghost_name ≡ self.old.buffer.ghost_name }
     {
         let next = self.at + bytes.len();

@@ -4,6 +4,5 @@ pub mod Many
 pub mod Actors
 pub mod Names
 pub mod Files
-pub mod Puts
 pub mod Graphs
 pub mod Ways

@@ -8,7 +8,8 @@
 use Rattle.std.specs.Prelude.{◌≡◌, ℕ, ◌+◌, ◌<◌, List, ◌++◌, length, take, drop, Some, None, Ok, Err, Result}
 use Rattle.fields.specs.declared.fault.Fault.{Fault as FieldFault}
 use Rattle.fields.specs.declared.fault.Fault.TheVariants.{Small}
-use Rattle.fields.specs.Writing.{Placed}
+use Rattle.fields.specs.declared.writing.Writer.{Writer}
+use Rattle.fields.specs.Writing.{Puts}
 use Rattle.graph.specs.declared.channel.Channel.{Channel}
 use Rattle.graph.specs.Counts.{CountsIs}
 use Rattle.graph.specs.Piece.{ApartIs}
@@ -57,7 +58,7 @@ abbrev pub WriteIs : List ℕ → List ℕ → List ℕ → Result ℕ Fault →
 WriteIs w xs ys (Ok n) = (n ≡ length w) × (ys ≡ w ++ drop n xs)
 WriteIs w xs ys (Err f) = (f ≡ Fields Small) × (length xs < length w) × (ys ≡ xs)
 
--- `w` written from `at` on, field by field: the place after it; or it does not fit
-abbrev pub PutAllIs : ℕ → List ℕ → List ℕ → List ℕ → Result ℕ FieldFault → Type 0
-PutAllIs at w xs ys (Ok next) = (next ≡ at + length w) × Placed at w xs ys
-PutAllIs at w xs ys (Err e) = (e ≡ Small) × (length xs < at + length w)
+-- `w` written from the writer's place on, field by field; or it does not fit
+abbrev pub PutAllIs : List ℕ → Writer → Writer → Result (Unit {0}) FieldFault → Type 0
+PutAllIs w old new (Ok u) = Puts w old new
+PutAllIs w old new (Err e) = (e ≡ Small) × (length old.buffer.now < old.at + length w)

@@ -1,5 +1,5 @@
 // Writing a graph's file into a caller's buffer.
-ghost use Rattle.std.specs.Prelude.{◌≡◌, ℕ, ◌+◌, ◌*◌, ◌/◌, ◌%◌, ◌<◌, ◌≤◌, List, ◌++◌, length};
+ghost use Rattle.std.specs.Prelude.{◌≡◌, ℕ, List, ◌++◌};
 ghost use Rattle.std.specs.List.{flat_map};
 ghost use Rattle.fields.specs.Writing.{PutIs};
 ghost use Rattle.graph.specs.File.{actor_value, actor_bytes, channel_value, channel_bytes};
@@ -9,25 +9,26 @@ use crate::actor::Actor;
 use crate::channel::Channel;
 use crate::fault::Fault;
 use crate::graph::Graph;
-use fields::Field;
+use fields::{Field, Writer};
 
 // A part of the file that is written as one field.
 trait Part {
     ghost bytes: { Self → List ℕ };
 
-    // Writes it from a place of the buffer on, and answers the place after it.
-    fn put(&self, out: &mut [u8], at: usize) -> Result<usize, fields::Fault>
-        ensures { PutIs at (bytes self.now) out.old out.new result };
+    // Writes it at the writer's place.
+    fn put(&self, writer: &mut Writer<'_>) -> Result<(), fields::Fault>
+        ensures done { PutIs (bytes self.now) writer.old writer.new result }
+        ensures lender { writer.new.buffer.ghost_name ≡ writer.old.buffer.ghost_name };
 }
 
 // The value of an actor's field.
 fn actor_value(actor: &Actor) -> [u8; 10]
     ensures { result ≡ actor_value actor.now }
 {
+    let Actor { name, time } = *actor;
     let mut value = [0; 10];
-    value[0..8].copy_from_slice(&actor.name);
-    value[8] = (actor.time / 256) as u8;
-    value[9] = (actor.time % 256) as u8;
+    value[..8].copy_from_slice(&name);
+    value[8..].copy_from_slice(&time.to_be_bytes());
     value
 }
 
@@ -35,61 +36,70 @@ fn actor_value(actor: &Actor) -> [u8; 10]
 fn channel_value(channel: &Channel) -> [u8; 8]
     ensures { result ≡ channel_value channel.now }
 {
-    let capacity = channel.capacity;
-    let tokens = channel.tokens;
+    let Channel {
+        source,
+        dest,
+        p,
+        q,
+        capacity,
+        tokens,
+    } = *channel;
+    let [capacity_high, capacity_low] = capacity.to_be_bytes();
+    let [tokens_high, tokens_low] = tokens.to_be_bytes();
     [
-        channel.source,
-        channel.dest,
-        channel.p,
-        channel.q,
-        (capacity / 256) as u8,
-        (capacity % 256) as u8,
-        (tokens / 256) as u8,
-        (tokens % 256) as u8,
+        source,
+        dest,
+        p,
+        q,
+        capacity_high,
+        capacity_low,
+        tokens_high,
+        tokens_low,
     ]
 }
 
 impl Part for Actor {
     ghost bytes = { actor_bytes };
 
-    fn put(&self, out: &mut [u8], at: usize) -> Result<usize, fields::Fault> {
-        Field::Actor(&actor_value(self)).write(out, at)
+    fn put(&self, writer: &mut Writer<'_>) -> Result<(), fields::Fault> {
+        Field::Actor(&actor_value(self)).write(writer)
     }
 }
 
 impl Part for Channel {
     ghost bytes = { channel_bytes };
 
-    fn put(&self, out: &mut [u8], at: usize) -> Result<usize, fields::Fault> {
-        Field::Channel(&channel_value(self)).write(out, at)
+    fn put(&self, writer: &mut Writer<'_>) -> Result<(), fields::Fault> {
+        Field::Channel(&channel_value(self)).write(writer)
     }
 }
 
-// Writes parts one after another from a place of the buffer on, and answers the place after them.
-fn put_all<P: Part>(parts: &[P], out: &mut [u8], at: usize) -> Result<usize, fields::Fault>
-    ensures { PutAllIs at (flat_map P.Part.bytes parts.now) out.old out.new result }
+// Writes parts one after another.
+fn put_all<P: Part>(parts: &[P], writer: &mut Writer<'_>) -> Result<(), fields::Fault>
+    ensures done { PutAllIs (flat_map P.Part.bytes parts.now) writer.old writer.new result }
+    ensures lender { writer.new.buffer.ghost_name ≡ writer.old.buffer.ghost_name }
 {
-    let mut next = at;
-    for i in 0..parts.len() {
-        next = parts[i].put(out, next)?;
+    for part in parts {
+        part.put(writer)?;
     }
-    Ok(next)
+    Ok(())
 }
 
 impl Graph {
     // Writes the file of the graph to the front of the buffer, and answers its length.
+    #[tactic(auto, using(crate::proofs::Graphs::reads_back))]
     pub fn write(&self, out: &mut [u8]) -> Result<usize, Fault>
         ensures done { WriteIs (writing self.now) out.old out.new result }
         ensures back { ReadsBack self.now }
     {
         let size = 5 + 13 * self.n + 11 * self.m;
         if out.len() < size {
-            return Err(Fault::Fields(fields::Fault::Small));
+            return Err(fields::Fault::Small.into());
         }
-        let head = [self.n as u8, self.m as u8];
-        let at = Field::Head(&head).write(out, 0)?;
-        let at = put_all(self.actors(), out, at)?;
-        let at = put_all(self.channels(), out, at)?;
-        Ok(at)
+        let mut writer = Writer::new(out, 0);
+        Field::Head(&[self.n as u8, self.m as u8]).write(&mut writer)?;
+        put_all(self.actors(), &mut writer)?;
+        put_all(self.channels(), &mut writer)?;
+        Ok(writer.place())
     }
 }

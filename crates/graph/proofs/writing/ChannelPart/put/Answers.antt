@@ -1,4 +1,4 @@
 use Rattle.graph.proofs.writing.ChannelPart.put.Goals as goal
 
-pub returns : goal.returns
-returns c = rw c.channel_value.ensures at c.write.ensures
+pub returns-clause-done : goal.returns-clause-done
+returns-clause-done c = rw c.channel_value.ensures at c.write.ensures.done
