@@ -28,18 +28,10 @@ module _ (rows : List NameRow) (used : ℕ) (x : NameRow) (h : used ≤ length r
       get_or-map (λ (r : NameRow). r.name) (take used rows) k x [] (omega (arith, length-take-le used rows h))
       ∙ ap (λ (r : NameRow). r.name) (get_or-take used rows k x l)
 
-  is_found : (i : ℕ) → i < used → bytes_eq (get_or rows i x).name x.name ≡ true → repeated (kept rows used) x.name ≡ true
-  is_found i l e = found (kept rows used) x.name i (omega (arith, many)) (rw (row i l) e)
-
-  is_absent : ((k : ℕ) → k < used → bytes_eq (get_or rows k x).name x.name ≡ false) → repeated (kept rows used) x.name ≡ false
-  is_absent f =
-      absent (kept rows used) x.name
-      (λ k l. let u : k < used = omega (arith, many) in rw (row k u) (f k u))
-
   -- a search for the name tells whether it is repeated
   pub search_tells : (o : Option ℕ) → FirstIs (λ a b. bytes_eq a.name b.name) rows used x o → is_some o ≡ repeated (kept rows used) x.name
-  search_tells (Some i) h = sym (is_found i h.0 h.1)
-  search_tells None h = sym (is_absent h)
+  search_tells (Some i) h = sym (found (kept rows used) x.name i (omega (arith, many, h.0)) (rw (row i h.0) h.1))
+  search_tells None h = sym (absent (kept rows used) x.name (λ k l. let u : k < used = omega (arith, many) in rw (row k u) (h k u)))
 
 -- what adding to a table with room leaves
 pub added : (xs : List NameRow) (n : ℕ) (x : NameRow) (ys : List NameRow) (m : ℕ) (o : Result ℕ NameRow) → n < length xs → AddedIs xs n x ys m o

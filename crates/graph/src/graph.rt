@@ -9,7 +9,7 @@ use crate::actor::Actor;
 use crate::channel::Channel;
 
 // The first `n` actors and the first `m` channels are there; the places after them hold zeros.
-// Arrays and their counts: a graph is copied whole, which no vector is, of fixed capacity either.
+// Arrays with a count beside each: a graph is `Copy`, which a vector, even one of fixed capacity, is not.
 #[derive(Clone, Copy)]
 pub struct Graph {
     pub(crate) actors: [Actor; 16],

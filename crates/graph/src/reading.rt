@@ -11,7 +11,7 @@ use fields::{Field, Kind};
 use table::Table;
 
 // What a file states: the first `n` actors and the first `m` channels.
-// Arrays and their counts, as a graph keeps them.
+// Arrays with a count beside each, as a graph keeps them.
 #[derive(Clone, Copy)]
 pub struct Parts {
     pub actors: [Actor; 16],
