@@ -1,11 +1,11 @@
 -- What tick and restart answer of a bench that was not refused. Assumes nothing.
-use Rattle.std.proofs.Common.{◌≡◌, ℕ, ◌+◌, ◌<◌, Some, None, Ok, Err, Option, Result, MatchOption, refl}
+use Rattle.std.proofs.Common.{◌≡◌, ℕ, ◌<◌, Some, None, Ok, Err, Option, Result, MatchOption, refl}
 use Rattle.policy.specs.declared.meaning.Policy.{Ghosts}
-use Rattle.model.specs.Net.{Net, Sound, Timed, State}
+use Rattle.model.specs.Net.{Net, Sound, Timed}
 use Rattle.rates.specs.declared.fault.Fault.{Fault}
 use Rattle.rates.specs.declared.fault.Fault.TheVariants.{Works}
 use Rattle.rates.specs.Rates.{last_tick}
-use Rattle.bench.specs.Sharing.{Stand, stand, Begins, Stepped}
+use Rattle.bench.specs.Sharing.{Stand, Begins, Stepped}
 use Rattle.bench.specs.Calls.{TickIs, RestartIs}
 use Rattle.bench.proofs.Shared.{Means, begins_in_step, ticks_in_step}
 
@@ -15,16 +15,15 @@ nobody None r u e h = refl
 nobody (Some a) r u e h = absurd (cc (e, h))
 
 module _ {X : Type 0} (m : Ghosts X) (means : Means m) (n : Net) (sound : Sound n) (time : ℕ → ℕ) (pos : Timed n time) where
-  pub ticked_so : (o : Option ℕ) (p p' : X) (s s' : State) (t k : ℕ) → o ≡ None → t < last_tick → Stepped m n time p s p' s' k →
-      TickIs m n time o (stand t s p) (stand (t + 1) s' p') (Ok (t + 1, k))
-  ticked_so (Some a) p p' s s' t k e lt h = absurd (cc e)
-  ticked_so None p p' s s' t k e lt h = record {
+  pub ticked_so : (o : Option ℕ) (b z : Stand X) (k : ℕ) → o ≡ None → b.tick < last_tick → Stepped m n time b z k → TickIs m n time o b z (Ok (z.tick, k))
+  ticked_so (Some a) b z k e lt h = absurd (cc e)
+  ticked_so None b z k e lt h = record {
     served = h.served;
     early = lt;
-    ticks = h.ticks t;
+    ticks = h.ticks;
     number = refl;
     ended = h.ended;
-    kept = λ p₀ was i. ticks_in_step m means n sound time pos p₀ i.agreed was (stand t s p) (stand (t + 1) s' p') h.served i (h.ticks t);
+    kept = λ p₀ was i. ticks_in_step m means n sound time pos p₀ i.agreed was b z h.served i h.ticks;
   }
 
   pub restarted_so : (o : Option ℕ) (b z : Stand X) (u : Unit) → o ≡ None → Begins m n time b.policy z → RestartIs m n time o b z (Ok u)

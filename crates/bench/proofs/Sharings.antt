@@ -1,9 +1,9 @@
 -- What the loops of a shared tick come to. Assumes nothing.
-use Rattle.std.proofs.Common.{◌≡◌, ℕ, zero, suc, ◌+◌, ◌<◌, ◌≤◌, Bool, true, false, cond, ◌&&◌, eqb, ltb, List, length, take, replicate, refl, ap, ◌∙◌, ap₂, add-one, arith}
+use Rattle.std.proofs.Common.{◌≡◌, ℕ, zero, suc, ◌+◌, ◌<◌, ◌≤◌, Bool, true, false, cond, ◌&&◌, eqb, ltb, List, length, take, replicate, sym, refl, ap, subst, inl, inr, ◌∙◌, ap₂, add-one, arith}
 use Rattle.std.specs.List.{count_by}
 use Rattle.std.proofs.lemmas.List.Sums.{count_by_more_yes, count_by_more_no}
 use Rattle.std.proofs.lemmas.Bool.Decides.{nat_tests}
-use Rattle.std.proofs.lemmas.Bool.{both_ways}
+use Rattle.std.proofs.lemmas.Bool.{both_ways, cases_lt}
 use Rattle.policy.specs.declared.meaning.Policy.{Ghosts}
 use Rattle.graph.specs.declared.graph.Graph.{Graph}
 use Rattle.model.specs.Net.{Net, State, when, busy, ready, start, ends, finish, tick, initial_state, run}
@@ -41,68 +41,77 @@ begun_ready n time s a pos = by (ready n s a) (λ e. (ready_true n s a e).0)
     by true idle = let e = idle refl in grind (arith, nat_tests)
     by false idle = grind (arith, nat_tests)
 
+-- nor of those that do nothing
+pub idle_begun : (was is : ℕ) → is ≡ 0 → (eqb was 0 && ltb 0 is) ≡ false
+idle_begun was is e = grind (arith, nat_tests)
+
 -- taken twice is taken once
 pub taken_again : (s : State) (left : ℕ → ℕ) (f : ℕ → ℕ) (a : ℕ) → left a ≡ taken s f a → taken s left a ≡ taken s f a
 taken_again s left f a e = grind (arith, nat_tests)
 
-module _ {X : Type 0} (m : Ghosts X) (g : Graph) where
+-- nothing starts past the first n
+pub lays_past : {X : Type 0} (m : Ghosts X) (go : ℕ → Bool) (n k : ℕ) (p q : X) → n ≤ k → ((a : ℕ) → n ≤ a → go a ≡ false) → Lays m go k p q → Lays m go n p q
+lays_past m go n zero p q le off l = let e : 0 ≡ n = omega arith in subst (λ (x : ℕ). Lays m go x p q) e l
+lays_past {X} m go n (suc k) p q le off l = elim (cases_lt k n) [
+  | inl lt ↦ let e : suc k ≡ n = omega arith in subst (λ (x : ℕ). Lays m go x p q) e l
+  | inr ge ↦ subst (λ (x : X). Lays m go n p x) (sym (l.3 (off k ge))) (lays_past m go n k p l.0 ge off l.1)
+]
+
+-- over a graph, with times that are its own
+module _ {X : Type 0} (m : Ghosts X) (g : Graph) (times : ℕ → ℕ) (timed : (a : ℕ) → times a ≡ times_of g a) where
   abbrev n : Net
   n = net g
 
   abbrev time : ℕ → ℕ
   time = times_of g
 
-  pub begins_done : (p q p' : X) (left : List ℕ) (w : State) → m.clears p q → Matches n w (run n time 0) → ((a : ℕ) → a < n.actors → at left a ≡ 0) →
-      Lays m (newly (at left) w) n.actors q p' → Begins m n time p (stand 0 w p') × Whole n w
-  begins_done p q p' left w cl st none la = (
-    record {
-      cleared = q;
-      clears = cl;
-      first = refl;
-      starts = st;
-      lays = lays_same m _ _ n.actors q p' (λ a ha. ap₂ (λ x y. eqb x 0 && ltb 0 y) (none a ha) (st.alike.left a ha) ∙ begun_ready n time (initial_state n) a (graph_timed g a ha)) la;
-    },
-    first_whole n (graph_fitting g).sound time (graph_timed g) w st.alike,
-  )
+  over_time : (P : (ℕ → ℕ) → Type 0) → P times → P time
+  over_time P = subst P (λ i a. timed a i)
 
-  module _ (p q p' : X) (left : List ℕ) (done : List Bool) (s w : State) (took : (a : ℕ) → a < n.actors → at left a ≡ taken s (m.view q).left a) where
+  pub begun_whole : (w : State) → Matches n w (run n times 0) → Whole n w
+  begun_whole w st = first_whole n (graph_fitting g).sound time (graph_timed g) w (over_time (λ t. Matches n w (run n t 0)) st).alike
+
+  pub begins_done : (p q p' : X) (left : ℕ → ℕ) (t : ℕ) (w : State) → t ≡ 0 → Matches n w (run n times 0) → m.clears p q → ((a : ℕ) → left a ≡ 0) →
+      Lays m (newly left w) n.actors q p' → Begins m n time p (stand t w p')
+  begins_done p q p' left t w first st cl none la =
+      let st' = over_time (λ t. Matches n w (run n t 0)) st in
+      record {
+        cleared = q;
+        clears = cl;
+        first = first;
+        starts = st';
+        lays = lays_same m _ _ n.actors q p' (λ a ha. ap₂ (λ x y. eqb x 0 && ltb 0 y) (none a) (st'.alike.left a ha) ∙ begun_ready n time (initial_state n) a (graph_timed g a ha)) la;
+      }
+
+  module _ (q : X) (left : ℕ → ℕ) (s w : State) (took : (a : ℕ) → a < n.actors → left a ≡ taken s (m.view q).left a) (st : Matches n w (tick n times (taken s left) s)) where
     abbrev new : ℕ → ℕ
     new = taken s (m.view q).left
 
-    same : (a : ℕ) → a < n.actors → taken s (at left) a ≡ new a
-    same a ha = taken_again s (at left) (m.view q).left a (took a ha)
+    same : (a : ℕ) → a < n.actors → taken s left a ≡ new a
+    same a ha = taken_again s left (m.view q).left a (took a ha)
 
-    goes : Matches n w (tick n time (taken s (at left)) s) → Matches n w (tick n time new s)
-    goes h =
-        let e = tick_matches n (graph_fitting g).sound time (taken s (at left)) new s s
+    goes : Matches n w (tick n time new s)
+    goes =
+        let h = over_time (λ t. Matches n w (tick n t (taken s left) s)) st in
+        let e = tick_matches n (graph_fitting g).sound time (taken s left) new s s
         (record { alike = record { tokens = λ c hc. refl; free = λ c hc. refl; left = λ a ha. refl }; ended = λ a ha. refl }) same in
         record { alike = alike_trans n _ _ _ h.alike e.alike; ended = λ a ha. h.ended a ha ∙ e.ended a ha }
 
-    pub step_done : (k : ℕ) → Whole n s → m.ticks p q → Matches n w (tick n time (taken s (at left)) s) →
-        ((a : ℕ) → a < n.actors → flag done a ≡ ends s (taken s (at left)) a) → Lays m (newly (at left) w) n.actors q p' → k ≡ many (flag done) n.actors →
-        Stepped m n time p s p' w k × Whole n w
-    step_done k whole sv st ended la mk =
-        let st' = goes st in (
-          record {
-            served = q;
-            ticks = λ t. record {
-              serves = sv;
-              next = refl;
-              goes = st';
-              lays = lays_same m _ _ n.actors q p' (λ a ha. ap₂ (λ x y. eqb x 0 && ltb 0 y) (took a ha) (st'.alike.left a ha) ∙ begun_ready n time (finish n new s) a (graph_timed g a ha)) la;
-            };
-            ended = mk ∙ many_same _ _ n.actors (λ a ha. ended a ha ∙ ap (λ l. busy s a && eqb l 0) (same a ha));
-          },
-          tick_whole n (graph_fitting g).sound time (graph_timed g) s w (m.view q).left st'.alike whole,
-        )
+    pub goes_whole : Whole n s → Whole n w
+    goes_whole whole = tick_whole n (graph_fitting g).sound time (graph_timed g) s w (m.view q).left goes.alike whole
 
-at_most_one : (b : Bool) → when b 1 ≤ 1
-at_most_one true = omega arith
-at_most_one false = omega arith
-
--- a tick adds one at most to a count
-pub step_few : {X : Type 0} (m : Ghosts X) (n : Net) (time : ℕ → ℕ) (p p' : X) (s s' : State) (k : ℕ) → Stepped m n time p s p' s' k → (a : ℕ) → a < n.actors → s'.ended a ≤ s.ended a + 1
-step_few m n time p p' s s' k h a ha = omega (arith, (h.ticks 0).goes.ended a ha, at_most_one (ends s (taken s (m.view h.served).left) a))
+    pub step_done : (p p' : X) (t t' k : ℕ) (done : List Bool) → m.ticks p q → t' ≡ t + 1 → ((a : ℕ) → a < n.actors → flag done a ≡ ends s (taken s left) a) →
+        Lays m (newly left w) n.actors q p' → k ≡ many (flag done) n.actors → Stepped m n time (stand t s p) (stand t' w p') k
+    step_done p p' t t' k done sv next ended la mk = record {
+      served = q;
+      ticks = record {
+        serves = sv;
+        next = next;
+        goes = goes;
+        lays = lays_same m _ _ n.actors q p' (λ a ha. ap₂ (λ x y. eqb x 0 && ltb 0 y) (took a ha) (goes.alike.left a ha) ∙ begun_ready n time (finish n new s) a (graph_timed g a ha)) la;
+      };
+      ended = mk ∙ many_same _ _ n.actors (λ a ha. ended a ha ∙ ap (λ l. busy s a && eqb l 0) (same a ha));
+    }
 
 -- so many of the first k marks stand
 pub many_marked : (bs : List Bool) (k : ℕ) → k ≤ length bs → count_by (λ b. b) (take k bs) ≡ many (flag bs) k

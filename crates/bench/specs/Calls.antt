@@ -23,10 +23,10 @@ use Rattle.bench.specs.Sharing.{Stand, stand, Begins, Ticks, ended_now}
 use Rattle.bench.specs.Story.{Serves, InStep, Does}
 
 abbrev pub look : {X : Type 0} {m : Ghosts X} → Bench X m → Stand X
-look b = stand b.tick (state b.run) b.policy
+look b = stand b.run.tick (state b.run) b.policy
 
 abbrev pub graph_of : {X : Type 0} {m : Ghosts X} → Bench X m → Graph
-graph_of b = b.graph.now
+graph_of b = b.run.graph.now
 
 -- t is the tick number, and k the number of firings ended; a bench in step stays so
 pub record Done {X : Type 0} (m : Ghosts X) (n : Net) (time : ℕ → ℕ) (b z : Stand X) (t k : ℕ) : Type 0 where

@@ -9,7 +9,7 @@
 -- Ticks      a later tick
 -- many       how many numbers below k pass a test
 -- ended_now  how many firings end as a policy has their ticks left
--- Stepped    a later tick and how many firings ended in it, whatever its number
+-- Stepped    a later tick, and how many firings ended in it
 use Rattle.std.specs.Prelude.{◌≡◌, ℕ, zero, suc, ◌+◌, Bool, true, false, ◌&&◌, ◌==◌}
 use Rattle.policy.specs.declared.meaning.Policy.{Ghosts}
 use Rattle.policy.specs.Meaning.{layable}
@@ -59,7 +59,7 @@ many f (suc k) = many f k + when (f k) 1
 abbrev pub ended_now : {X : Type 0} → Ghosts X → Net → State → X → ℕ
 ended_now m n s q = many (ends s (taken s (m.view q).left)) n.actors
 
-pub record Stepped {X : Type 0} (m : Ghosts X) (n : Net) (time : ℕ → ℕ) (p : X) (s : State) (p' : X) (s' : State) (k : ℕ) : Type 0 where
+pub record Stepped {X : Type 0} (m : Ghosts X) (n : Net) (time : ℕ → ℕ) (b z : Stand X) (k : ℕ) : Type 0 where
   pub served : X
-  pub ticks : (t : ℕ) → Ticks m n time (stand t s p) served (stand (t + 1) s' p')
-  pub ended : k ≡ ended_now m n s served
+  pub ticks : Ticks m n time b served z
+  pub ended : k ≡ ended_now m n b.state served

@@ -11,7 +11,7 @@ use crate::sharing::{later_tick, tick_zero};
 use graph::Graph;
 use policy::Policy;
 use rates::{Fault, LAST_TICK, lowest_differing};
-use runs::Run;
+use runs::{Run, times};
 
 // What becomes of a join of which that is the lowest actor at which graph and policy do not agree, if any.
 fn accepted(refused: Option<u8>) -> Result<(), Fault>
@@ -39,13 +39,11 @@ impl<'g, P: Policy> Bench<'g, P> {
         ensures kept { Agreed (net graph.now) (times_of graph.now) (P.Policy.view policy) → InStep P.Policy (net graph.now) (times_of graph.now) policy [] (look result) }
     {
         let refused = lowest_differing(graph, &policy);
-        let mut run = Run::REST;
-        tick_zero(graph, &mut policy, &mut run);
+        let run = Run::new(graph, times(graph));
+        tick_zero(&mut policy, &run);
         Bench {
-            graph,
-            policy,
             run,
-            tick: 0,
+            policy,
             refused,
         }
     }
@@ -57,12 +55,11 @@ impl<'g, P: Policy> Bench<'g, P> {
         ensures refused { is_ok result ≡ false → self.new ≡ self.old }
     {
         accepted(self.refused)?;
-        if self.tick >= LAST_TICK {
+        if self.run.tick() >= LAST_TICK {
             return Err(Fault::LastTick);
         }
-        let ended = later_tick(self.graph, &mut self.policy, &mut self.run);
-        self.tick += 1;
-        Ok((self.tick, ended))
+        let ended = later_tick(&mut self.policy, &mut self.run);
+        Ok((self.run.tick(), ended))
     }
 
     // The number of an actor or a channel that is asked of, where so many are there.
@@ -81,23 +78,23 @@ impl<'g, P: Policy> Bench<'g, P> {
     pub fn count(&self, a: u8) -> Result<u32, Fault>
         ensures { QuestionIs self.now.refused (net (graph_of self.now)).actors (state self.now.run).ended a result }
     {
-        let a = self.asked(a, self.graph.actors().len())?;
-        Ok(self.run.counts[a])
+        let a = self.asked(a, self.run.graph().actors().len())?;
+        Ok(self.run.ended(a))
     }
 
     // The tokens on a channel.
     pub fn tokens(&self, c: u8) -> Result<u16, Fault>
         ensures { QuestionIs self.now.refused (net (graph_of self.now)).channels (state self.now.run).tokens c result }
     {
-        let c = self.asked(c, self.graph.channels().len())?;
-        Ok(self.run.tokens[c])
+        let c = self.asked(c, self.run.graph().channels().len())?;
+        Ok(self.run.tokens(c))
     }
 
     // The most ticks until an actor's firing under way ends.
     pub fn due(&self, a: u8) -> Result<u16, Fault>
         ensures { QuestionIs self.now.refused (net (graph_of self.now)).actors (P.Policy.view self.now.policy).due a result }
     {
-        self.asked(a, self.graph.actors().len())?;
+        self.asked(a, self.run.graph().actors().len())?;
         Ok(self.policy.due(a))
     }
 
@@ -108,8 +105,8 @@ impl<'g, P: Policy> Bench<'g, P> {
         ensures refused { is_ok result ≡ false → self.new ≡ self.old }
     {
         accepted(self.refused)?;
-        tick_zero(self.graph, &mut self.policy, &mut self.run);
-        self.tick = 0;
+        self.run.restart();
+        tick_zero(&mut self.policy, &self.run);
         Ok(())
     }
 }

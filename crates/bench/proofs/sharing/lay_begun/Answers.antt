@@ -1,36 +1,24 @@
-use Rattle.std.proofs.Common.{◌≡◌, ℕ, ◌<◌, ◌≤◌, ◌≢◌, true, false, ◌&&◌, eqb, ltb, get_or, take, length-take, sym, ◌∙◌, arith}
-use Rattle.std.proofs.lemmas.Bool.Decides.{nat_tests}
-use Rattle.std.proofs.lemmas.List.{get_or-take}
-use Rattle.runs.specs.Seen.{at, state}
+use Rattle.std.proofs.Common.{◌≡◌, ◌&&◌, eqb, ltb, sym, ap, ◌∙◌, arith}
+use Rattle.runs.specs.Seen.{net, at, state}
+use Rattle.runs.proofs.Graphs.{graph_fitting}
 use Rattle.bench.specs.Sharing.{newly}
-use Rattle.bench.proofs.Sharings.{lays_start, lays_stay}
+use Rattle.bench.proofs.Sharings.{lays_start, lays_stay, lays_past, idle_begun}
 use Rattle.bench.proofs.sharing.lay_begun.Goals as goal
-use Rattle.bench.proofs.sharing.lay_begun.Goals.{then-left-eq0+then-left-gt0, else-left-eq0, else-left-eq0-via-then-left-eq0+else-left-gt0, else-left-eq0-via-else-left-eq0}
-
-begun : (was is left : ℕ) → was ≡ 0 → 0 < is → is ≡ left → (eqb was 0 && ltb 0 left) ≡ true
-begun was is left e lt same = grind (arith, nat_tests)
-
-idle : (was is left : ℕ) → is ≤ 0 → is ≡ left → (eqb was 0 && ltb 0 left) ≡ false
-idle was is left le same = grind (arith, nat_tests)
-
-under_way : (was left : ℕ) → was ≢ 0 → (eqb was 0 && ltb 0 left) ≡ false
-under_way was left ne = grind (arith, nat_tests)
+use Rattle.bench.proofs.sharing.lay_begun.Goals.{then-begun, else-begun}
 
 pub loop-a-preserved : goal.loop-a-preserved
 loop-a-preserved g c =
     let a = c.loop-a.a in
-    let was = at c.args.left.now in
-    let is = (state c.args.run.now).left in
-    let go = newly was (state c.args.run.now) in
-    let here : get_or (take c.args.actors c.args.left.now) a 0 ≡ was a = get_or-take c.args.actors c.args.left.now a 0 (omega (arith, length-take {A = ℕ})) in
-    elim c.if-left-eq0.branch [
-      | then-left-eq0+then-left-gt0 w ↦
-          rw w.policy-is (lays_start g.P.Policy go a _ _ _ c.loop-a.invariant (begun (was a) w.left.result (is a) (sym here ∙ w.if-left-eq0.true) w.if-left-gt0.true w.left.ensures)
+    let go = newly (at c.args.left.now) (state c.args.run.now) in
+    let here : c.begun.result ≡ go a = c.begun.ensures ∙ ap (λ l. eqb (at c.args.left.now a) 0 && ltb 0 l) c.left.ensures.left in
+    elim c.if-begun.branch [
+      | then-begun w ↦ rw w.policy-is (lays_start g.P.Policy go a _ _ _ c.loop-a.invariant (sym here ∙ w.if-begun.true)
           (record { done = λ can. w.lay.ensures.done (w.lay.ensures.value ∙ can); refused = λ cannot. w.lay.ensures.refused (w.lay.ensures.value ∙ cannot) }))
-      | else-left-eq0 w ↦
-          let not_begun : go a ≡ false = elim w.else-left-eq0.branch [
-            | else-left-eq0-via-then-left-eq0+else-left-gt0 w' ↦ idle (was a) w'.left.result (is a) w'.if-left-gt0.false w'.left.ensures
-            | else-left-eq0-via-else-left-eq0 w' ↦ under_way (was a) (is a) (λ e. w'.if-left-eq0.false (here ∙ e))
-          ] in
-          lays_stay g.P.Policy go a _ _ _ c.loop-a.invariant not_begun w.policy-is
+      | else-begun w ↦ lays_stay g.P.Policy go a _ _ _ c.loop-a.invariant (sym here ∙ w.if-begun.false) w.policy-is
     ]
+
+pub returns : goal.returns
+returns g c =
+    let run = c.args.run.now in
+    let go = newly (at c.args.left.now) (state run) in
+    lays_past g.P.Policy go (net run.graph.now).actors c.loop-a.a _ _ (omega (arith, (graph_fitting run.graph.now).few.0)) (λ a past. idle_begun _ _ (run.vacant.1 a past).0) c.loop-a.invariant

@@ -1,4 +1,4 @@
-use Rattle.std.proofs.Common.{refl}
+use Rattle.std.proofs.Common.{ap}
 use Rattle.runs.specs.Seen.{net, times_of, state}
 use Rattle.runs.proofs.Graphs.{graph_fitting, graph_timed}
 use Rattle.bench.specs.Sharing.{stand}
@@ -9,11 +9,12 @@ pub returns : goal.returns
 returns g c =
     let gr = c.args.graph.now in
     let met = g.met.P.Policy in
-    let b = c.tick_zero.ensures.begins in
+    let run = c.new-run.result in
+    let b = rw c.new-run.ensures.graph at c.tick_zero.ensures.begins in
     record {
-      same = refl;
+      same = ap (λ x. x.now) c.new-run.ensures.graph;
       refused = c.lowest_differing-refused.ensures;
       after = b;
       kept = joins_in_step g.P.Policy (record { sound = met.sound; ticked = met.ticked; laid = met.laid; cleared = met.cleared })
-          (net gr) (graph_fitting gr).sound (times_of gr) (graph_timed gr) c.args.policy (stand 0 (state c.tick_zero.new.run) c.tick_zero.new.policy) b;
+          (net gr) (graph_fitting gr).sound (times_of gr) (graph_timed gr) c.args.policy (stand run.tick (state run) c.tick_zero.new.policy) b;
     }

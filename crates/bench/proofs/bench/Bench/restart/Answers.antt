@@ -1,5 +1,4 @@
 use Rattle.std.proofs.Common.{refl}
-use Rattle.std.proofs.lemmas.Bool.{true≢false}
 use Rattle.runs.specs.Seen.{net, times_of, state}
 use Rattle.runs.proofs.Graphs.{graph_fitting, graph_timed}
 use Rattle.bench.specs.Sharing.{stand}
@@ -7,15 +6,12 @@ use Rattle.bench.specs.Calls.{look}
 use Rattle.bench.proofs.Answered.{nobody, restarted_so}
 use Rattle.bench.proofs.bench.Bench.restart.Goals as goal
 
-pub returns : goal.returns
-returns g c =
+pub returns-clause-value : goal.returns-clause-value
+returns-clause-value g c =
     let b = c.args.self.now in
-    let gr = b.graph.now in
+    let gr = b.run.graph.now in
+    let z = c.restart.new.self in
     let met = g.met.P.Policy in
-    record {
-      value = restarted_so g.P.Policy (record { sound = met.sound; ticked = met.ticked; laid = met.laid; cleared = met.cleared })
-          (net gr) (graph_fitting gr).sound (times_of gr) (graph_timed gr) b.refused (look b) (stand 0 (state c.tick_zero.new.run) c.tick_zero.new.policy) tt
-          (nobody b.refused _ _ refl c.in_ok-accepted.ensures) c.tick_zero.ensures.begins;
-      same = (refl, refl);
-      refused = λ e. absurd (true≢false e);
-    }
+    restarted_so g.P.Policy (record { sound = met.sound; ticked = met.ticked; laid = met.laid; cleared = met.cleared })
+    (net gr) (graph_fitting gr).sound (times_of gr) (graph_timed gr) b.refused (look b) (stand z.tick (state z) c.tick_zero.new.policy) tt
+    (nobody b.refused _ _ refl c.in_ok-accepted.ensures) (rw c.restart.ensures.graph at c.tick_zero.ensures.begins)
