@@ -41,6 +41,7 @@ fn main(rt: HostRuntime) -> anyhow::Result<()> {
     let mut buffer = [0; ENOUGH];
     let size = fill(&mut rt.stdin(), &mut buffer)?;
     let file = &mut buffer[..size];
+    // By number: a cut is so many bytes, and its line says how many.
     for cut in 0..file.len() {
         let report = Report::of(&file[..cut]);
         println!(rt; "cut {cut}: {report}")?;
