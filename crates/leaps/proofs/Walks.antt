@@ -7,18 +7,16 @@ use Rattle.std.proofs.lemmas.List.Sums.{sum_by_more, sum_by_more_le}
 use Rattle.runs.specs.Seen.{at}
 use Rattle.leaps.specs.declared.list.Move.{Move}
 use Rattle.leaps.specs.declared.moves.Moves.{Moves}
-use Rattle.leaps.specs.Stores.{moved, list_at}
+use Rattle.leaps.specs.Stores.{rate_at, moved, list_at}
 use Rattle.leaps.specs.Moves.{IsWalk, Moved}
 use Rattle.leaps.proofs.Listed.{moves_within, moves_sum}
 
 pub is_walk : (m : Moves) (a : ℕ) (ms : List Move) → length m.stores ≡ 64 → ms ≡ list_at m.lists a → IsWalk m a ms
-is_walk m a ms size is =
-    let e : ms ≡ list_at m.lists a = is in
-    rw (is, m.listed a) (record {
-      moves = refl;
-      within = moves_within m.stores a 64 (length m.stores) (omega (arith, size));
-      rates = λ k lt. moves_sum m.stores a k (length m.stores) (omega (arith, size));
-    })
+is_walk m a ms size is = rw (is, m.listed a) (record {
+  moves = refl;
+  within = moves_within m.stores a 64 (length m.stores) (omega (arith, size));
+  rates = λ e lt. moves_sum m.stores a e (length m.stores) (omega (arith, size));
+})
 
 -- the first i of the moves are made
 pub record Walked (f : ℕ → ℕ → ℕ) (ms : List Move) (i : ℕ) (xs ys : List ℕ) : Type 0 where
@@ -38,9 +36,9 @@ module _ (ms : List Move) (i : ℕ) (d : Move) (lt : i < length ms) where
   more : (e : ℕ) → sum_by (moved e) (take (i + 1) ms) ≡ sum_by (moved e) (take i ms) + moved e m
   more e = sum_by_more (moved e) ms i d lt
 
-  -- what was moved at its store and its rate are within what all move there
-  pub walked_le : sum_by (moved m.store) (take i ms) + m.rate ≤ sum_by (moved m.store) ms
-  walked_le = omega (arith, moved_here, sum_by_more_le (moved m.store) ms i d lt)
+  -- what was moved at its store, and its rate, are within the actor's rate there
+  pub walked_le : (w : Moves) (a : ℕ) → IsWalk w a ms → sum_by (moved m.store) (take i ms) + m.rate ≤ rate_at w.stores a m.store
+  walked_le w a h = omega (arith, moved_here, sum_by_more_le (moved m.store) ms i d lt, h.rates m.store (h.within i d lt))
 
   pub walked_more : (f : ℕ → ℕ → ℕ) (xs ys : List ℕ) → ((x s r : ℕ) → f (f x s) r ≡ f x (s + r)) → m.store < 64 → Walked f ms i xs ys → Walked f ms (i + 1) xs (set ys m.store (f (at ys m.store) m.rate))
   walked_more f xs ys twice within w = record {

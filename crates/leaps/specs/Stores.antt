@@ -1,15 +1,15 @@
 -- The stores of a graph, and an actor's moves at them. Assumes nothing.
 --
--- store_at  a store by its number, nobody's past the last
--- owner_is  the store has an owner, one of the sixteen, who is so
--- is_of     it is the actor's
--- rate_at   the actor's rate at a store, 0 at one that is not its own
--- move_at   the move at a store of its owner's firing
+-- store_at     a store by its number, nobody's past the last
+-- owner_is     the store has an owner, one of the sixteen, who is so
+-- is_of        it is the actor's
+-- rate_at      the actor's rate at a store, 0 at one that is not its own
+-- move_at      the move at a store of its owner's firing
 -- moves_below  the actor's moves at the first so many stores
--- moves_of  those at all
--- moves_in  the moves that stand in a list
--- list_at   those in the list of an actor, none past the last
--- moved     what a move moves at a store
+-- moves_of     those at all
+-- moves_in     the moves that stand in a list
+-- list_at      those in the list of an actor, none past the last
+-- moved        what a move moves at a store
 use Rattle.std.specs.Prelude.{ℕ, zero, suc, ◌==◌, Bool, false, if◌then◌else◌, ◌&&◌, nat_lt, None, List, [], ◌∷◌, ◌++◌, length, take, slice_index_or, slice_get}
 use Rattle.std.specs.Option.{option_map_or}
 use Rattle.model.specs.Net.{when}

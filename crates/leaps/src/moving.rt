@@ -18,8 +18,8 @@ impl Moves {
         }
     }
 
-    // Adds the actor's rate at each of its stores. Not one walk with the taking: a sum has to fit and a difference may not pass 0,
-    // and of a shared one each caller would have to show what its closure asks.
+    // Adds the actor's rate at each of its stores.
+    // One walk over a closure, for this and the taking, is no plainer: it has to ask that the closure fits what earlier moves left.
     pub fn give(&self, a: usize, levels: &mut [u16; 64])
         requires room { (e : ℕ) → e < 64 → at levels.old e + rate_at self.now.stores a e < 65536 }
         ensures { Moved ◌+◌ self.now a levels.old levels.new }

@@ -10,7 +10,7 @@ overflow_add-levels c =
     let d : Move = record { store = 0; rate = 0 } in
     let e = (get_or ms i d).store in
     let within : e < 64 = c.of_actor-m-items.ensures.within i d c.loop-m-test.true in
-    omega (arith, walked_le ms i d c.loop-m-test.true, c.loop-m.invariant.are e within, c.requires.room e within, c.of_actor-m-items.ensures.rates e within)
+    omega (arith, walked_le ms i d c.loop-m-test.true _ _ c.of_actor-m-items.ensures, c.loop-m.invariant.are e within, c.requires.room e within)
 
 pub loop-m-preserved : goal.loop-m-preserved
 loop-m-preserved c =
