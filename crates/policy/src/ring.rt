@@ -15,6 +15,7 @@ pub struct Ring {
     rows: Rows,
     // Whose turn it is, or was last.
     turn: u8,
+    // Whether it still is. No Option of a turn: also from one that is over the next goes round.
     busy: bool,
     ghost on: { turn ≤ length rows.list.items - 1 },
     ghost going: { busy ≡ true → 0 < slice_index (lefts_of rows.list.items) turn },

@@ -29,7 +29,7 @@ fn total(rows: &[Row]) -> u16
     rows.iter().map(|row| row.work).sum()
 }
 
-// One tick for every actor.
+// One tick for each.
 fn serve(rows: &mut [Row])
     ensures { rows.new ≡ map worn rows.old }
 {
@@ -38,7 +38,7 @@ fn serve(rows: &mut [Row])
     }
 }
 
-// Takes away all work left.
+// Takes away what is left of each.
 fn clear(rows: &mut [Row])
     ensures { rows.new ≡ map emptied rows.old }
 {
