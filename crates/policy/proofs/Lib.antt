@@ -3,3 +3,4 @@ pub mod Rings
 pub mod Same
 pub mod Windows
 pub mod Writes
+pub mod Totals

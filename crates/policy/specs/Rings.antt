@@ -1,5 +1,5 @@
 -- What rows keep, and with it the laws of free and ring. Assumes nothing.
-use Rattle.std.proofs.Common.{◌≡◌, ℕ, ◌<◌, ◌≤◌, Bool, true, List, length, get_or, sym, subst, ⊎_elim, arith}
+use Rattle.std.proofs.Common.{◌≡◌, ℕ, ◌-◌, ◌<◌, ◌≤◌, Bool, true, List, length, get_or, sym, subst, ⊎_elim, arith}
 use Rattle.std.specs.List.{All}
 use Rattle.std.proofs.lemmas.List.{get_or_past, length-map}
 use Rattle.std.proofs.lemmas.Bool.{cases_lt}
@@ -29,7 +29,7 @@ module _ (rows : Rows) where
   pub under : (a : ℕ) → get_or (lefts_of rows.list.items) a 0 ≤ get_or (works_of rows.list.items) a 0
   under = by_row rows.list.items rows.fit (λ w l. l ≤ w) (λ r f. f.under) (omega arith)
 
-  past : (a : ℕ) → length rows.list.items ≤ a → get_or (works_of rows.list.items) a 0 ≡ 0
+  pub past : (a : ℕ) → length rows.list.items ≤ a → get_or (works_of rows.list.items) a 0 ≡ 0
   past a h = get_or_past (works_of rows.list.items) a 0 (omega (arith, length-map rows.list.items (λ (r : Row). r.work)))
 
   pub free_sound : Sound (freed rows.list.items)
@@ -44,9 +44,9 @@ module _ (rows : Rows) where
     due_zero = λ a z. z;
   }
 
-  module _ (t : ℕ) (busy : Bool) (on : 0 < length rows.list.items → t < length rows.list.items) (going : busy ≡ true → 0 < get_or (lefts_of rows.list.items) t 0) where
+  module _ (t : ℕ) (busy : Bool) (on : t ≤ length rows.list.items - 1) (going : busy ≡ true → 0 < get_or (lefts_of rows.list.items) t 0) where
     pub table : Table (length rows.list.items) (works_of rows.list.items) (lefts_of rows.list.items) t busy
-    table = record { few = rows.few; most = most; past = past; under = under; on = on; going = going }
+    table = record { few = rows.few; most = most; past = past; under = under; on = λ h. omega arith; going = going }
 
     pub ring_sound : Sound (ringed (length rows.list.items) (works_of rows.list.items) (lefts_of rows.list.items) t busy)
     ring_sound = ringed_sound (length rows.list.items) (works_of rows.list.items) (lefts_of rows.list.items) t busy table

@@ -28,10 +28,10 @@ abbrev pub ahead : ℕ → ℕ → ℕ → ℕ
 ahead n t b = cond (ltb t b) (b - t) ((b + n) - t)
 
 module _ (ws : List ℕ) (n t b : ℕ) where
-  sums_on : t < b → sums ws n t b ≡ total ws (b + 1) - total ws (t + 1)
+  pub sums_on : t < b → sums ws n t b ≡ total ws (b + 1) - total ws (t + 1)
   sums_on h = cond-true _ _ _ (lt-ltb t b h)
 
-  sums_back : b ≤ t → sums ws n t b ≡ (total ws n - total ws (t + 1)) + total ws (b + 1)
+  pub sums_back : b ≤ t → sums ws n t b ≡ (total ws n - total ws (t + 1)) + total ws (b + 1)
   sums_back h = cond-false _ _ _ (le-ltb t b h)
 
 module _ (n t b : ℕ) where

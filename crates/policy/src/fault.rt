@@ -37,8 +37,7 @@ impl Fault {
     {
         match self {
             Fault::Crowd => 0,
-            Fault::Limits(actor) => actor,
-            Fault::Promise(actor) => actor,
+            Fault::Limits(actor) | Fault::Promise(actor) => actor,
         }
     }
 }

@@ -39,6 +39,7 @@ impl<A: Policy, B: Policy> Pair<A, B> {
         Pair { first, second }
     }
 
+    // Matched in each call below: the two are of different types, which no one closure takes.
     fn side(&self, a: u8) -> Side
         ensures { result ≡ side (A.Policy.view self.now.first).number (B.Policy.view self.now.second).number a }
     {

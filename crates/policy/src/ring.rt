@@ -7,7 +7,6 @@ ghost use Rattle.std.proofs.Common.{rules};
 
 use crate::fault::Fault;
 use crate::meaning::Policy;
-use crate::round::after;
 use crate::rows::Rows;
 
 // One processor, which goes round the actors that have work left.
@@ -16,8 +15,9 @@ pub struct Ring {
     rows: Rows,
     // Whose turn it is, or was last.
     turn: u8,
+    // Whether it still is. No Option of a turn: also from one that is over the next goes round.
     busy: bool,
-    ghost on: { 0 < length rows.list.items → turn < length rows.list.items },
+    ghost on: { turn ≤ length rows.list.items - 1 },
     ghost going: { busy ≡ true → 0 < slice_index (lefts_of rows.list.items) turn },
 }
 
@@ -50,43 +50,31 @@ impl Ring {
         if self.busy {
             return Some(self.turn);
         }
-        let n = self.rows.number();
-        let mut a = self.turn;
-        for _step in 0..n {
-            a = after(n, a);
-            if self.rows.left(a) > 0 {
-                return Some(a);
-            }
-        }
-        None
+        let after = self.turn + 1;
+        (after..self.rows.number())
+            .chain(0..after)
+            .find(|a| self.rows.left(*a) > 0)
     }
 
     // The works of all actors together.
     fn total(&self) -> u16
         ensures { result ≡ total (works_of self.now.rows.list.items) (length self.now.rows.list.items) }
     {
-        let mut sum = 0;
-        for a in 0..self.rows.number() {
-            sum += self.rows.work(a);
-        }
-        sum
+        self.rows.total(self.rows.number())
     }
 
     // The works after the turn's actor, going round to and including another's.
     fn round(&self, b: u8) -> u16
+        requires { b < length self.now.rows.list.items }
         ensures { result ≡ round (works_of self.now.rows.list.items) (length self.now.rows.list.items) self.now.turn b }
     {
-        let n = self.rows.number();
-        let mut at = self.turn;
-        let mut sum = 0;
-        for _step in 0..n {
-            at = after(n, at);
-            sum += self.rows.work(at);
-            if at == b {
-                return sum;
-            }
+        let passed = self.rows.total(self.turn + 1);
+        let reached = self.rows.total(b + 1);
+        if self.turn < b {
+            reached - passed
+        } else {
+            reached + (self.total() - passed)
         }
-        sum
     }
 }
 

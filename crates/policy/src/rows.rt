@@ -1,6 +1,7 @@
-ghost use Rattle.std.specs.Prelude.{◌≡◌, ℕ, ◌+◌, ◌-◌, ◌<◌, ◌≤◌, true, false, ◌&&◌, map, length, ◌==◌, ◌≢◌, nat_lt, slice_index};
+ghost use Rattle.std.specs.Prelude.{◌≡◌, ℕ, ◌+◌, ◌-◌, ◌^◌, ◌<◌, ◌≤◌, true, false, ◌&&◌, map, sum, length, ◌==◌, ◌≢◌, nat_lt, slice_index};
 ghost use Rattle.std.specs.List.{All};
 ghost use Rattle.policy.specs.Works.{WorksChecked, RowsMade, RowsLaid, RowsCleared, FreeTicks, Fit, worn, emptied, works_of, lefts_of};
+ghost use Rattle.policy.specs.Turns.{total};
 
 use crate::fault::Fault;
 use arrayvec::ArrayVec;
@@ -20,7 +21,15 @@ pub struct Rows {
     ghost fit: { All Fit list.items },
 }
 
-// One tick for every actor.
+// The works of all together.
+fn total(rows: &[Row]) -> u16
+    requires { sum (works_of rows.now) < 2 ^ 16 }
+    ensures { result ≡ sum (works_of rows.now) }
+{
+    rows.iter().map(|row| row.work).sum()
+}
+
+// One tick for each.
 fn serve(rows: &mut [Row])
     ensures { rows.new ≡ map worn rows.old }
 {
@@ -29,7 +38,7 @@ fn serve(rows: &mut [Row])
     }
 }
 
-// Takes away all work left.
+// Takes away what is left of each.
 fn clear(rows: &mut [Row])
     ensures { rows.new ≡ map emptied rows.old }
 {
@@ -82,6 +91,14 @@ impl Rows {
         ensures { result ≡ slice_index (lefts_of self.now.list.items) a }
     {
         self.list.get(a as usize).map_or(0, |row| row.left)
+    }
+
+    // The works of the first `k` actors together.
+    pub(crate) fn total(&self, k: u8) -> u16
+        requires { k ≤ length self.now.list.items }
+        ensures { result ≡ total (works_of self.now.list.items) k }
+    {
+        total(&self.list[..k as usize])
     }
 
     // One tick for every actor.

@@ -1,34 +1,19 @@
-use Rattle.std.proofs.Common.{length, ◌≡◌, ◌-◌, Some, None, ap, ◌∙◌, arith}
+use Rattle.std.proofs.Common.{ℕ, ◌+◌, ◌-◌, sym, ap, ◌∙◌, arith, rules}
+use Rattle.std.specs.List.{find}
+use Rattle.std.proofs.lemmas.Iterator.{YieldsList-from_range}
+use Rattle.std.proofs.lemmas.Iterator.Adapters.{option_map_id}
+use Rattle.std.proofs.lemmas.Iterator.Consumers.{YieldsList-from_chain}
+use Rattle.std.proofs.lemmas.Iterator.Search.{find_from_yields_List}
+use borrow.Author.Tests.{tests}
 use Rattle.policy.specs.Works.{lefts_of}
-use Rattle.policy.specs.Turns.{waiting}
-use Rattle.policy.proofs.Steps.{next_ended, waiting_found, waiting_passed}
+use Rattle.policy.proofs.Steps.{has, round_of, next_round}
 use Rattle.policy.proofs.ring.Ring.next.Goals as goal
-
-pub loop-step-init : goal.loop-step-init
-loop-step-init c =
-    let r = c.args.self.now in
-    let e : c.number-n.result ≡ c.number-n.result - 0 = omega arith in
-    (c.number-n.ensures, (λ h. omega (arith, c.number-n.ensures, r.on (omega (arith, c.number-n.ensures)))), ap (waiting c.number-n.result (lefts_of r.rows.list.items) r.turn) e)
-
-pub after-a-requires : goal.after-a-requires
-after-a-requires c = c.loop-step.invariant.1 (omega arith)
-
-pub returns-then-left-gt0 : goal.returns-then-left-gt0
-returns-then-left-gt0 c =
-    let r = c.args.self.now in
-    let found = waiting_found c.number-n.result (lefts_of r.rows.list.items) c.loop-step.a c.loop-step._step c.loop-step-test.true c.after-a.result c.after-a.ensures.0 (omega arith) in
-    next_ended (length r.rows.list.items) c.number-n.result (lefts_of r.rows.list.items) r.turn r.busy (Some c.after-a.result) c.if-self.false c.number-n.ensures (c.loop-step.invariant.2 ∙ found)
-
-pub loop-step-preserved : goal.loop-step-preserved
-loop-step-preserved c = (
-  c.number-n.ensures,
-  (λ h. c.after-a.ensures.1),
-  c.loop-step.invariant.2 ∙ waiting_passed c.number-n.result (lefts_of c.args.self.now.rows.list.items) c.loop-step.a c.loop-step._step c.loop-step-test.true c.after-a.result c.after-a.ensures.0 (omega arith),
-)
 
 pub returns : goal.returns
 returns c =
-    let r = c.args.self.now in
-    let e : c.number-n.result - c.loop-step._step ≡ 0 = omega arith in
-    next_ended (length r.rows.list.items) c.number-n.result (lefts_of r.rows.list.items) r.turn r.busy None c.if-self.false c.number-n.ensures
-    (c.loop-step.invariant.2 ∙ ap (waiting c.number-n.result (lefts_of r.rows.list.items) c.loop-step.a) e)
+    let p = c.args.self.now in
+    let left = lefts_of p.rows.list.items in
+    let n = c.number.result in
+    let t = p.turn in
+    let found = find_from_yields_List (has left) _ _ c.find.result c.find.ensures.ran (YieldsList-from_chain (YieldsList-from_range (t + 1) n (n - (t + 1)) (cc) (omega arith)) (YieldsList-from_range 0 (t + 1) (t + 1) (cc) (omega arith)) (cc) (cc)) (λ x b q k. search (rules, tests)) in
+    sym (option_map_id c.find.result) ∙ found ∙ ap (λ (n : ℕ). find (has left) (round_of n t)) c.number.ensures ∙ sym (next_round p c.if-self.false)

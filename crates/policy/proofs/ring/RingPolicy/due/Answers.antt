@@ -18,5 +18,5 @@ overflow_add-result c =
       c.round-2.ensures,
       rows_under p.rows p.turn,
       all_limit n ws (lefts_of p.rows.list.items) p.turn p.busy (table p),
-      round_other ws n p.turn c.args.a (p.on (omega arith)) there c.if-a-self.false,
+      round_other ws n p.turn c.args.a (omega arith) there c.if-a-self.false,
     )

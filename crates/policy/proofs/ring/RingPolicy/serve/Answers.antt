@@ -14,4 +14,4 @@ pub invariant_of-self : goal.invariant_of-self
 invariant_of-self c =
     let p = c.args.self.now in
     let there = next_has (length p.rows.list.items) (works_of p.rows.list.items) (lefts_of p.rows.list.items) p.turn p.busy (table p) c.in-Some.a (sym c.next.ensures ∙ c.in-Some.is) in
-    record { on = λ _. omega (arith, c.serve_one.ensures.number, there.0); going = λ e. omega (arith, c.left.ensures, ltb-true 0 c.left.result e) }
+    record { on = omega (arith, c.serve_one.ensures.number, there.0); going = λ e. omega (arith, c.left.ensures, ltb-true 0 c.left.result e) }
