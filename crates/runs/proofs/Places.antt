@@ -42,6 +42,12 @@ module _ (n : Net) (sound : Sound n) where
   alike_places : (s z : State) → Alike n s z → (c : ℕ) → c < n.channels → places n s c ≡ places n z c
   alike_places s z h c hc = rw (h.tokens c hc, h.free c hc, h.left (n.source c) (sound.source_in c hc), h.left (n.dest c) (sound.dest_in c hc))
 
+  pub begins_within : (z : State) → Alike n z (initial_state n) → Within n z
+  begins_within z h c hc = omega (arith, alike_places z (initial_state n) h c hc, sound.fits c hc)
+
+  pub finishes_within : (s z : State) (left : ℕ → ℕ) → Alike n z (finish n (taken s left) s) → Within n s → Within n z
+  finishes_within s z left h w c hc = omega (arith, alike_places z (finish n (taken s left) s) h c hc, finish_places s left c, w c hc)
+
   -- whatever the times
   module _ (time : ℕ → ℕ) where
     start_within : (s : State) (c : ℕ) → c < n.channels → places n (start n time s) c ≤ places n s c
@@ -56,12 +62,8 @@ module _ (n : Net) (sound : Sound n) where
           fits (ready n s u) (n.p c) (s.free c) (has_places n s c hc),
         )
 
-    pub first_within : (z : State) → Alike n z (run n time 0) → Within n z
-    first_within z h c hc = omega (arith, alike_places z (run n time 0) h c hc, start_within (initial_state n) c hc, sound.fits c hc)
-
-    pub tick_within : (s z : State) (left : ℕ → ℕ) → Alike n z (tick n time (taken s left) s) → Within n s → Within n z
-    tick_within s z left h w c hc =
-        omega (arith, alike_places z (tick n time (taken s left) s) h c hc, start_within (finish n (taken s left) s) c hc, finish_places s left c, w c hc)
+    pub starts_within : (s z : State) → Alike n z (start n time s) → Within n s → Within n z
+    starts_within s z h w c hc = omega (arith, alike_places z (start n time s) h c hc, start_within s c hc, w c hc)
 
   -- with times from 1
   module _ (time : ℕ → ℕ) (pos : Timed n time) where

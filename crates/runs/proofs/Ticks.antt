@@ -51,6 +51,9 @@ module _ (gr : Graph) where
         ended = λ a ha. b.ended a ∙ ap (λ f. f a) t.ended;
       }
 
+      pub starts_counts : (a : ℕ) → w.ended a ≡ s.ended a
+      starts_counts a = b.ended a ∙ ap (λ f. f a) t.ended
+
       pub starts_vacant : Vacant g s → Vacant g w
       starts_vacant v = (
         λ c hc. (ap (λ f. f c) b.tokens ∙ t.tokens_stay c hc ∙ (v.0 c hc).0, ap (λ f. f c) b.free ∙ t.free_stay c hc ∙ (v.0 c hc).1),
@@ -77,6 +80,11 @@ module _ (gr : Graph) where
       };
       ended = λ a ha. ap (λ t. t a) v.ended ∙ f.ended_are a (few a ha);
     }
+
+    pub finishes_counts : (a : ℕ) → w.ended a ≤ s.ended a + 1
+    finishes_counts a =
+        ⊎_elim (λ lt. omega (arith, ap (λ t. t a) v.ended, f.ended_are a lt, at_most_one (ends s (taken s (at left)) a)))
+        (λ ge. omega (arith, ap (λ t. t a) v.ended, f.ended_stay a ge)) (cases_lt a 16)
 
     idle_left : (a l : ℕ) → s.left a ≡ 0 → cond (busy s a) l 0 ≡ 0
     idle_left a l e = grind (arith, nat_tests)
@@ -107,15 +115,6 @@ module _ (gr : Graph) where
       alike = alike_trans g _ _ _ st.alike (start_alike g fit.sound time _ _ f.alike);
       ended = λ a ha. st.ended a ha ∙ f.ended a ha;
     }
-
-    -- counts from tick to tick
-    module _ (z : State) (v : Vacant g z) where
-      pub first_few : Matches g z (run g time 0) → (a : ℕ) → z.ended a ≤ 0
-      first_few h a = ⊎_elim (λ lt. omega (arith, h.ended a lt)) (λ ge. omega (arith, (v.1 a ge).1)) (cases_lt a g.actors)
-
-      pub tick_few : (new : ℕ → ℕ) (s : State) (t : ℕ) → Matches g z (tick g time new s) → ((a : ℕ) → s.ended a ≤ t) → (a : ℕ) → z.ended a ≤ t + 1
-      tick_few new s t h few a =
-          ⊎_elim (λ lt. omega (arith, h.ended a lt, few a, at_most_one (ends s new a))) (λ ge. omega (arith, (v.1 a ge).1)) (cases_lt a g.actors)
 
   -- with the ticks that fall
   module _ (left times : List ℕ) (s z : State) (falls : (a : ℕ) → a < 16 → at left a ≡ fallen s a) where

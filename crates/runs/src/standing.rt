@@ -50,6 +50,19 @@ impl Held {
         }
     }
 
+    // Strikes out the ends of the channel that its tokens and free places hinder.
+    fn withhold(self, channel: &Channel, go: &mut [bool; 16])
+        requires { (Ends 16 channel.now) × (length go.old ≡ 16) }
+        ensures { Withheld channel.now self.tokens self.free go.old go.new }
+    {
+        if self.tokens < u16::from(channel.q) {
+            go[usize::from(channel.dest)] = false;
+        }
+        if self.free < u16::from(channel.p) {
+            go[usize::from(channel.source)] = false;
+        }
+    }
+
     // The marked ends of the channel take their tokens and places.
     fn take(&mut self, channel: &Channel, go: &[bool; 16])
         requires ends { Ends 16 channel.now }
@@ -114,23 +127,12 @@ impl Doing {
     }
 }
 
-// Strikes out the ends of a channel that its tokens and free places hinder.
-fn withhold(channel: &Channel, held: Held, go: &mut [bool; 16])
-    requires { (Ends 16 channel.now) × (length go.old ≡ 16) }
-    ensures { Withheld channel.now held.tokens held.free go.old go.new }
-{
-    if held.tokens < u16::from(channel.q) {
-        go[usize::from(channel.dest)] = false;
-    }
-    if held.free < u16::from(channel.p) {
-        go[usize::from(channel.source)] = false;
-    }
-}
-
 impl Standing {
     // What stands before the starts of tick 0.
     pub fn initial(graph: &Graph) -> Standing
         ensures begins { Matches (net graph.now) (state_of result) (initial_state (net graph.now)) }
+        ensures counts { (a : ℕ) → (state_of result).ended a ≡ 0 }
+        ensures within { Within (net graph.now) (state_of result) }
         ensures vacant { Vacant (net graph.now) (state_of result) }
     {
         let channels = graph.channels();
@@ -165,7 +167,7 @@ impl Standing {
         let channels = graph.channels();
         let mut go = self.idle(graph.actors().len());
         for (c, channel) in channels.iter().enumerate() {
-            withhold(channel, self.held[c], &mut go);
+            self.held[c].withhold(channel, &mut go);
         }
         go
     }
@@ -195,6 +197,8 @@ impl Standing {
     // Every ready actor starts once.
     pub fn start_ready(&mut self, graph: &Graph, times: &[u16; 16])
         ensures after { Matches (net graph.now) (state_of self.new) (start (net graph.now) (at times.now) (state_of self.old)) }
+        ensures counts { (a : ℕ) → (state_of self.new).ended a ≡ (state_of self.old).ended a }
+        ensures within { Within (net graph.now) (state_of self.old) → Within (net graph.now) (state_of self.new) }
         ensures vacant { Vacant (net graph.now) (state_of self.old) → Vacant (net graph.now) (state_of self.new) }
     {
         let go = self.ready(graph);
@@ -232,6 +236,8 @@ impl Standing {
         ensures size { length result ≡ 16 }
         ensures done { (a : ℕ) → a < (net graph.now).actors → flag result a ≡ ends (state_of self.old) (taken (state_of self.old) (at left.now)) a }
         ensures after { Matches (net graph.now) (state_of self.new) (finished (net graph.now) (taken (state_of self.old) (at left.now)) (state_of self.old)) }
+        ensures counts { (a : ℕ) → (state_of self.new).ended a ≤ (state_of self.old).ended a + 1 }
+        ensures within { Within (net graph.now) (state_of self.new) }
         ensures vacant { Vacant (net graph.now) (state_of self.old) → Vacant (net graph.now) (state_of self.new) }
     {
         let done = self.serve(left);

@@ -1,7 +1,9 @@
-use Rattle.std.proofs.Common.{refl, ◌≡◌, ◌-◌, ◌<◌, length, ap, arith, length-set}
+use Rattle.std.proofs.Common.{◌≡◌, ◌-◌, ◌<◌, length, replicate, refl, ap, arith, rules, length-set}
 use Rattle.runs.specs.declared.standing.Held.{Held}
-use Rattle.runs.specs.Nets.{channel_at}
-use Rattle.runs.specs.Standings.{none}
+use Rattle.runs.specs.Nets.{channel_at, net}
+use Rattle.runs.specs.Standings.{none, idle, state_of}
+use Rattle.runs.proofs.Graphs.{graph_fitting}
+use Rattle.runs.proofs.Places.{begins_within}
 use Rattle.runs.proofs.Ticks.{bounded}
 use Rattle.runs.proofs.Marks.{nothing, set_are, set_stay}
 use Rattle.runs.proofs.standing.Standing.initial.Goals as goal
@@ -22,3 +24,8 @@ loop-c-preserved c =
       set_are (λ k (h : Held). h.free ≡ (channel_at cs k).capacity - (channel_at cs k).tokens) hs none i x lt v.2 c.initial.ensures.free,
       set_stay (λ k (h : Held). h ≡ none) hs none i x lt v.3,
     )
+
+pub returns-clause-within : goal.returns-clause-within
+returns-clause-within c =
+    let g = c.args.graph.now in
+    begins_within (net g) (graph_fitting g).sound (state_of (record { held = c.loop-c.held; doing = replicate 16 idle })) (search rules)
