@@ -1,18 +1,16 @@
 -- Every graph is an accepted one. Assumes nothing.
-use Rattle.std.proofs.Common.{◌≡◌, ℕ, ◌*◌, ◌<◌, ◌≤◌, ltb, List, length, get_or, sym, ap, ◌∙◌, subst, inl, inr, arith}
+use Rattle.std.proofs.Common.{◌≡◌, ℕ, ◌*◌, ◌<◌, ◌≤◌, List, length, get_or, sym, ap, ◌∙◌, subst, arith}
 use mathlib.Core.Logic.{∥∥₁_map}
-use Rattle.std.proofs.lemmas.List.{get_or-take, get_or_past}
-use Rattle.std.proofs.lemmas.Bool.{cases_lt, lt-ltb, le-ltb}
+use Rattle.std.proofs.lemmas.List.{get_or-take}
 use Rattle.std.proofs.lemmas.Bool.Decides.{nat_tests}
 use Rattle.graph.specs.declared.actor.Actor.{Actor}
 use Rattle.graph.specs.declared.channel.Channel.{Channel}
 use Rattle.graph.specs.declared.graph.Graph.{Graph}
 use Rattle.graph.specs.Channels.{blank}
-use Rattle.graph.specs.Rules.{nobody}
 use Rattle.graph.specs.Meaning.{actors_in, channels_in}
 use Rattle.graph.specs.Piece.{Way, start, along, back}
 use Rattle.graph.proofs.Graphs.{actors_are, channels_are}
-use Rattle.model.specs.Net.{Net, Timed, when}
+use Rattle.model.specs.Net.{Net, Timed}
 use Rattle.model.specs.Meaning.{Joined, first, along as on, back as off, Accepted}
 use Rattle.runs.specs.Nets.{net_of, net, at, times_of, reps_of}
 use Rattle.runs.specs.Loops.{Fitting}
@@ -75,13 +73,6 @@ module _ (g : Graph) where
         ap (λ x. (net g).p c * x) s ∙ (g.solves.1 c hc ∙ sym (ap (λ x. (net g).q c * x) d));
     counted = graph_counted;
   }
-
--- a table of the times of all actors
-pub times_are : (us vs : List Actor) (i a : ℕ) → vs ≡ us → length vs ≤ i → when (ltb a i) (get_or vs a nobody).time ≡ (get_or us a nobody).time
-times_are us vs i a e all = rw (← e) (elim (cases_lt a i) [
-  | inl lt ↦ ap (λ b. when b (get_or vs a nobody).time) (lt-ltb a i lt)
-  | inr ge ↦ ap (λ b. when b (get_or vs a nobody).time) (le-ltb a i ge) ∙ sym (ap (λ u. u.time) (get_or_past vs a nobody (omega arith)))
-])
 
 -- the graph's own actors, channels and times
 pub over_graph : (g : Graph) (us : List Actor) (cs : List Channel) (ts : List ℕ) → us ≡ actors_in g → cs ≡ channels_in g → ((a : ℕ) → at ts a ≡ times_of g a) →

@@ -50,6 +50,19 @@ impl Held {
         }
     }
 
+    // Strikes out the ends of the channel that its tokens and free places hinder.
+    fn withhold(self, channel: &Channel, go: &mut [bool; 16])
+        requires { (Ends 16 channel.now) × (length go.old ≡ 16) }
+        ensures { Withheld channel.now self.tokens self.free go.old go.new }
+    {
+        if self.tokens < u16::from(channel.q) {
+            go[usize::from(channel.dest)] = false;
+        }
+        if self.free < u16::from(channel.p) {
+            go[usize::from(channel.source)] = false;
+        }
+    }
+
     // The marked ends of the channel take their tokens and places.
     fn take(&mut self, channel: &Channel, go: &[bool; 16])
         requires ends { Ends 16 channel.now }
@@ -114,19 +127,6 @@ impl Doing {
     }
 }
 
-// Strikes out the ends of a channel that its tokens and free places hinder.
-fn withhold(channel: &Channel, held: Held, go: &mut [bool; 16])
-    requires { (Ends 16 channel.now) × (length go.old ≡ 16) }
-    ensures { Withheld channel.now held.tokens held.free go.old go.new }
-{
-    if held.tokens < u16::from(channel.q) {
-        go[usize::from(channel.dest)] = false;
-    }
-    if held.free < u16::from(channel.p) {
-        go[usize::from(channel.source)] = false;
-    }
-}
-
 impl Standing {
     // What stands before the starts of tick 0.
     pub fn initial(graph: &Graph) -> Standing
@@ -167,7 +167,7 @@ impl Standing {
         let channels = graph.channels();
         let mut go = self.idle(graph.actors().len());
         for (c, channel) in channels.iter().enumerate() {
-            withhold(channel, self.held[c], &mut go);
+            self.held[c].withhold(channel, &mut go);
         }
         go
     }

@@ -1,12 +1,6 @@
-use Rattle.std.proofs.Common.{◌∙◌}
 use Rattle.runs.specs.Seen.{state}
-use Rattle.runs.proofs.Ticks.{next_ends, next_follows}
+use Rattle.runs.proofs.Ticks.{next_follows}
 use Rattle.runs.proofs.run.Run.next.Goals as goal
-
-pub returns-clause-done : goal.returns-clause-done
-returns-clause-done c a ha =
-    let r = c.args.self.now in
-    c.step.ensures.done a ha ∙ next_ends r.graph.now c.one_less-left.result r.times (state r) (state c.step.new.self) c.one_less-left.ensures.value a ha
 
 pub returns-clause-after : goal.returns-clause-after
 returns-clause-after c =

@@ -3,7 +3,7 @@ use Rattle.runs.specs.Standings.{state_of}
 use Rattle.runs.specs.Nets.{net, at}
 use Rattle.runs.proofs.Graphs.{graph_fitting}
 use Rattle.runs.proofs.Places.{within_roomy, finishes_within}
-use Rattle.runs.proofs.Ticks.{finish_ends, finishes, finishes_counts, finishes_vacant}
+use Rattle.runs.proofs.Ticks.{finishes, finishes_counts, finishes_vacant}
 use Rattle.runs.proofs.standing.Standing.finish.Goals as goal
 
 pub give-requires : goal.give-requires
@@ -12,10 +12,6 @@ give-requires c i lt =
     let t = ap (λ f. f i) c.serve-done.ensures.tokens in
     let f = ap (λ f. f i) c.serve-done.ensures.free in
     (omega (arith, t, h.0), omega (arith, f, h.1))
-
-pub returns-clause-done : goal.returns-clause-done
-returns-clause-done c = finish_ends c.args.graph.now c.args.left.now (state_of c.args.self.now) (state_of c.serve-done.new.self) (state_of c.give.new.self)
-    c.serve-done.result c.serve-done.ensures c.give.ensures
 
 pub returns-clause-after : goal.returns-clause-after
 returns-clause-after c = finishes c.args.graph.now c.args.left.now (state_of c.args.self.now) (state_of c.serve-done.new.self) (state_of c.give.new.self)
