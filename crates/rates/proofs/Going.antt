@@ -3,16 +3,12 @@ use Rattle.std.proofs.Common.{◌≡◌, ℕ, ◌+◌, ◌-◌, ◌%◌, ◌<◌
 use Rattle.std.proofs.lemmas.List.{length_push}
 use Rattle.std.proofs.lemmas.Bool.{cases_Bool}
 use Rattle.std.proofs.lemmas.Bool.Decides.{nat_tests}
-use Rattle.model.specs.Net.{Net, State, when, every, busy, ends, fallen, next, run}
+use Rattle.model.specs.Net.{Net, State, when, every, busy, ends, fallen, run}
 use Rattle.model.specs.Likeness.{Matches}
 use Rattle.model.specs.Rate.{Answer, standstill, repeats, no_row, late, on, takes_row, answers, still, sample_due, says, rated, rate_of}
 use Rattle.model.proofs.Every.{every_same}
 use Rattle.model.proofs.Verdicts.{same_at, says_standstill, says_on, says_repeats, says_takes_row, says_no_row, due_later}
 use Rattle.model.proofs.Steps.{step_first, step_on, step_takes_row, step_last, step_last_row, rated_answers}
-use Rattle.model.proofs.Alikes.{next_matches}
-use Rattle.graph.specs.declared.graph.Graph.{Graph}
-use Rattle.runs.specs.Seen.{net, at, reps_of}
-use Rattle.runs.proofs.Graphs.{graph_some, graph_fitting}
 use Rattle.rates.specs.declared.fault.Fault.{Fault}
 use Rattle.rates.specs.declared.fault.Fault.TheVariants.{Works, NoRow, LastTick, Absent}
 use Rattle.rates.specs.declared.rate.Rate.{Rate}
@@ -163,13 +159,14 @@ module _ (n : Net) (time : ℕ → ℕ) (rep : ℕ) (before : List Sample) (fit 
     so_far = step_first n time rep room last_tick;
   }
 
-module _ {n : Net} {time : ℕ → ℕ} {rep : ℕ} {before : List Sample} (fit : (n.actors ≤ 16) × (n.channels ≤ 32)) {t : ℕ} {s : State} {due : Bool} {rows : List Sample} {used : ℕ}
-    (g : Going n time rep before t s due rows used) where
-  pub judged_comes : {rows' : List Sample} {used' : ℕ} {r : Result (Option Rate) Fault} →
-      (Rising rows used → Rising rows' used') →
-      Judged n s due t rows used rows' used' r → Comes n time rep before t rows rows' used' g.taken r
-  judged_comes {rows'} {used'} {r} = comes n time rep before fit t rows used g.taken g.kept s g.state due g.due rows' used' r
+pub judged_comes : {n : Net} {time : ℕ → ℕ} {rep : ℕ} {before : List Sample} (fit : (n.actors ≤ 16) × (n.channels ≤ 32)) {t : ℕ} {s : State} {due : Bool} {rows : List Sample} {used : ℕ}
+    (g : Going n time rep before t s due rows used) {rows' : List Sample} {used' : ℕ} {r : Result (Option Rate) Fault} → (Rising rows used → Rising rows' used') →
+    Judged n s due t rows used rows' used' r → Comes n time rep before t rows rows' used' g.taken r
+judged_comes {n} {time} {rep} {before} fit {t} {s} {due} {rows} {used} g {rows'} {used'} {r} =
+    comes n time rep before fit t rows used g.taken g.kept s g.state due g.due rows' used' r
 
+module _ {n : Net} {time : ℕ → ℕ} {rep : ℕ} {before : List Sample} {t : ℕ} {s : State} {due : Bool} {rows : List Sample} {used : ℕ}
+    (g : Going n time rep before t s due rows used) where
   pub answers_so : {rows' : List Sample} {r : Result Rate Fault} → Done n time rep before t rows rows' g.taken r → Rated n time rep before rows' r
   answers_so d =
       let o = g.so_far ∙ rated_answers n time rep (length before) t g.taken (last_tick - t) d.answer d.said in
@@ -221,29 +218,6 @@ due_next n time rep t {s} {z} some m m' =
     let up : ltb ((run n time t).ended 0) ((run n time (t + 1)).ended 0) ≡ ends (run n time t) (fallen (run n time t)) 0 =
     rw add-one (up_one (ends (run n time t) (fallen (run n time t)) 0) ((run n time t).ended 0)) in
     ap₂ (λ x e. x && eqb (e % rep) 0) (same ∙ sym up) (m'.ended 0 some) ∙ sym (due_later n time rep t)
-
--- the run of a graph with a table of times
-module _ (gr : Graph) (times : List ℕ) where
-  pub graph_begins : {before : List Sample} {t : ℕ} {s : State} {used : ℕ} → t ≡ 0 → used ≡ 0 → Matches (net gr) s (run (net gr) (at times) 0) →
-      Going (net gr) (at times) (reps_of gr 0) before t s true before used
-  graph_begins {before} e f m = rw (e, f) (begins (net gr) (at times) (reps_of gr 0) before (graph_fitting gr).few m)
-
-  module _ {before : List Sample} {t : ℕ} {s : State} {due : Bool} {rows : List Sample} {used : ℕ} (g : Going (net gr) (at times) (reps_of gr 0) before t s due rows used) where
-    pub graph_comes : {x : Graph} {rows' : List Sample} {used' : ℕ} {r : Result (Option Rate) Fault} → x ≡ gr →
-        (Rising rows used → Rising rows' used') → Judged (net x) s due t rows used rows' used' r →
-        Comes (net gr) (at times) (reps_of gr 0) before t rows rows' used' g.taken r
-    graph_comes {x} {rows'} {used'} {r} e rising j =
-        judged_comes (graph_fitting gr).few g rising (subst (λ (x : Graph). Judged (net x) s due t rows used rows' used' r) e j)
-
-    pub graph_goes_on : {x : Graph} {ts : List ℕ} {z : State} {t' : ℕ} {done due' : Bool} {rows' : List Sample} {used' : ℕ} → (t ≡ last_tick → ⊥) →
-        On (net gr) (at times) (reps_of gr 0) before t rows' used' g.taken → x ≡ gr → ts ≡ times → t' ≡ t + 1 → done ≡ ends s (fallen s) 0 →
-        Matches (net x) z (next (net x) (at ts) s) → due' ≡ (done && eqb (z.ended 0 % reps_of gr 0) 0) →
-        Going (net gr) (at times) (reps_of gr 0) before t' z due' rows' used'
-    graph_goes_on {x} {ts} {z} not_last o e f u d h due-is =
-        let m = next_matches (net gr) (graph_fitting gr).sound (at times) s z t
-        (subst (λ (x : Graph). Matches (net x) z (next (net x) (at times) s)) e (subst (λ (ts : List ℕ). Matches (net x) z (next (net x) (at ts) s)) f h)) g.state in
-        rw u (goes_on (graph_fitting gr).few g not_last o m
-        (due-is ∙ (ap (λ b. b && eqb (z.ended 0 % reps_of gr 0) 0) d ∙ due_next (net gr) (at times) (reps_of gr 0) t (graph_some gr) g.state m)))
 
 -- tables that agree have one outcome
 pub rated_as : {n : Net} {time time' : ℕ → ℕ} {rep : ℕ} {rows rows' : List Sample} {r : Result Rate Fault} → ((a : ℕ) → time a ≡ time' a) →

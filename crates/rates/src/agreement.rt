@@ -1,5 +1,5 @@
 // Whether a policy's works are a graph's times.
-ghost use Rattle.std.specs.Prelude.{◌≡◌, true, false};
+ghost use Rattle.std.specs.Prelude.{Decides};
 ghost use Rattle.runs.specs.Seen.{net, times_of};
 ghost use Rattle.rates.specs.Agree.{Agree, Lowest};
 
@@ -8,8 +8,7 @@ use policy::Policy;
 
 // Whether the graph has the actor with its work for time, or neither side has it.
 fn agrees<P: Policy>(graph: &Graph, policy: &P, a: u8) -> bool
-    ensures yes { result ≡ true → Agree (net graph.now).actors (times_of graph.now) (P.Policy.view policy.now) a }
-    ensures no { result ≡ false → Agree (net graph.now).actors (times_of graph.now) (P.Policy.view policy.now) a → ⊥ }
+    ensures { Decides result (Agree (net graph.now).actors (times_of graph.now) (P.Policy.view policy.now) a) }
 {
     let time = graph.actors().get(usize::from(a)).map(|actor| actor.time);
     let work = (a < policy.number()).then(|| policy.work(a));
