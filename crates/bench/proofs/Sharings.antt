@@ -41,21 +41,9 @@ begun_ready n time s a pos = by (ready n s a) (λ e. (ready_true n s a e).0)
     by true idle = let e = idle refl in grind (arith, nat_tests)
     by false idle = grind (arith, nat_tests)
 
--- nor of those that do nothing
-pub idle_begun : (was is : ℕ) → is ≡ 0 → (eqb was 0 && ltb 0 is) ≡ false
-idle_begun was is e = grind (arith, nat_tests)
-
 -- taken twice is taken once
 pub taken_again : (s : State) (left : ℕ → ℕ) (f : ℕ → ℕ) (a : ℕ) → left a ≡ taken s f a → taken s left a ≡ taken s f a
 taken_again s left f a e = grind (arith, nat_tests)
-
--- nothing starts past the first n
-pub lays_past : {X : Type 0} (m : Ghosts X) (go : ℕ → Bool) (n k : ℕ) (p q : X) → n ≤ k → ((a : ℕ) → n ≤ a → go a ≡ false) → Lays m go k p q → Lays m go n p q
-lays_past m go n zero p q le off l = let e : 0 ≡ n = omega arith in subst (λ (x : ℕ). Lays m go x p q) e l
-lays_past {X} m go n (suc k) p q le off l = elim (cases_lt k n) [
-  | inl lt ↦ let e : suc k ≡ n = omega arith in subst (λ (x : ℕ). Lays m go x p q) e l
-  | inr ge ↦ subst (λ (x : X). Lays m go n p x) (sym (l.3 (off k ge))) (lays_past m go n k p l.0 ge off l.1)
-]
 
 -- over a graph, with times that are its own
 module _ {X : Type 0} (m : Ghosts X) (g : Graph) (times : ℕ → ℕ) (timed : (a : ℕ) → times a ≡ times_of g a) where

@@ -44,7 +44,8 @@ fn begun(was: u16, is: u16) -> bool
 fn lay_begun<P: Policy>(left: &[u16; 16], run: &Run<'_>, policy: &mut P)
     ensures { Lays P.Policy (newly (at left.now) (state run.now)) (net run.now.graph.now).actors policy.old policy.new }
 {
-    for (a, left) in left.iter().enumerate() {
+    let actors = run.graph().actors().len();
+    for (a, left) in left[..actors].iter().enumerate() {
         if begun(*left, run.left(a)) {
             let _ = policy.lay(a as u8);
         }
