@@ -24,10 +24,11 @@ abbrev pub store_of : End → Channel → Store
 store_of Source c = record { owner = Some c.source; rate = c.p }
 store_of Dest c = record { owner = Some c.dest; rate = c.q }
 
-pub record MovesOf (e : End) (cs : List Channel) (stores : List Store) : Type 0 where
-  pub near : (c : ℕ) → c < length cs → store_at stores c ≡ store_of e (channel_at cs c)
-  pub far : (c : ℕ) → c < length cs → store_at stores (32 + c) ≡ store_of (other e) (channel_at cs c)
-  pub only : (k : ℕ) → k < 64 → (a : ℕ) → (store_at stores k).owner ≡ Some a → (k < length cs) ⊎ ((32 ≤ k) × (k < 32 + length cs))
+-- of the channels below i
+pub record MovesOf (i : ℕ) (e : End) (cs : List Channel) (stores : List Store) : Type 0 where
+  pub near : (c : ℕ) → c < i → store_at stores c ≡ store_of e (channel_at cs c)
+  pub far : (c : ℕ) → c < i → store_at stores (32 + c) ≡ store_of (other e) (channel_at cs c)
+  pub only : (k : ℕ) → k < 64 → (a : ℕ) → (store_at stores k).owner ≡ Some a → (k < i) ⊎ ((32 ≤ k) × (k < 32 + i))
 
 abbrev pub wakes_at : List (List Bool) → ℕ → ℕ → Bool
 wakes_at wakes a b = flag (slice_index_or wakes a []) b
@@ -40,6 +41,6 @@ pub record Wakes (k i : ℕ) (cs : List Channel) (wakes : List (List Bool)) : Ty
 
 pub record PlanIs (n : ℕ) (cs : List Channel) (p : Plan) : Type 0 where
   pub actors : p.actors ≡ n
-  pub takes : MovesOf Dest cs p.takes.stores
-  pub puts : MovesOf Source cs p.puts.stores
+  pub takes : MovesOf (length cs) Dest cs p.takes.stores
+  pub puts : MovesOf (length cs) Source cs p.puts.stores
   pub wakes : Wakes 16 (length cs) cs p.wakes

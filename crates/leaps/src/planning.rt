@@ -45,7 +45,7 @@ impl End {
 // The moves of the actors at one end of the channels with tokens, and of those at the other end with free places.
 fn moves(channels: &[Channel], end: End) -> Moves
     requires { length channels.now ≤ 32 }
-    ensures { MovesOf end channels.now result.stores }
+    ensures { MovesOf (length channels.now) end channels.now result.stores }
 {
     let mut stores = [Store::NOBODYS; 64];
     let far = end.other();
