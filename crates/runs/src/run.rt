@@ -1,5 +1,5 @@
 // A run of a graph, tick by tick.
-ghost use Rattle.std.specs.Prelude.{◌≡◌, ℕ, ◌+◌, ◌<◌, ◌≤◌, not, length};
+ghost use Rattle.std.specs.Prelude.{◌≡◌, ℕ, ◌+◌, ◌^◌, ◌<◌, ◌≤◌, not, length};
 ghost use Rattle.model.specs.Likeness.{Matches};
 ghost use Rattle.model.specs.Net.{every, busy, ends, fallen, tick as tick_state, next as next_state, run as run_at};
 ghost use Rattle.runs.specs.Loops.{flag};
@@ -16,7 +16,7 @@ pub struct Run<'g> {
     graph: &'g Graph,
     times: [u16; 16],
     standing: Standing,
-    // the ticks done since tick 0
+    // the ticks done since tick 0, or as many as can be told
     tick: u32,
     // no actor has ended more firings than ticks have been done
     ghost few: { (a : ℕ) → (state_of standing).ended a ≤ tick },
@@ -58,26 +58,26 @@ impl<'g> Run<'g> {
 
     // A later tick, with the new ticks left of the firings under way; marks the firings that ended.
     pub fn step(&mut self, left: &[u16; 16]) -> [bool; 16]
-        requires { self.old.tick < 4294967295 }
+        requires { (a : ℕ) → a < (net self.old.graph.now).actors → (state self.old).ended a + 1 < 2 ^ 32 }
         ensures graph { self.new.graph ≡ self.old.graph }
         ensures times { self.new.times ≡ self.old.times }
-        ensures tick { self.new.tick ≡ self.old.tick + 1 }
+        ensures tick { self.old.tick < 4294967295 → self.new.tick ≡ self.old.tick + 1 }
         ensures size { length result ≡ 16 }
         ensures done { (a : ℕ) → a < (net self.old.graph.now).actors → flag result a ≡ ends (state self.old) (taken (state self.old) (at left.now)) a }
         ensures after { Matches (net self.old.graph.now) (state self.new) (tick_state (net self.old.graph.now) (at self.old.times) (taken (state self.old) (at left.now)) (state self.old)) }
     {
         let done = self.standing.finish(self.graph, left);
         self.standing.start_ready(self.graph, &self.times);
-        self.tick += 1;
+        self.tick = self.tick.saturating_add(1);
         done
     }
 
     // A later tick of a run of its own.
     pub fn next(&mut self) -> [bool; 16]
-        requires { self.old.tick < 4294967295 }
+        requires { (a : ℕ) → a < (net self.old.graph.now).actors → (state self.old).ended a + 1 < 2 ^ 32 }
         ensures graph { self.new.graph ≡ self.old.graph }
         ensures times { self.new.times ≡ self.old.times }
-        ensures tick { self.new.tick ≡ self.old.tick + 1 }
+        ensures tick { self.old.tick < 4294967295 → self.new.tick ≡ self.old.tick + 1 }
         ensures size { length result ≡ 16 }
         ensures done { (a : ℕ) → a < (net self.old.graph.now).actors → flag result a ≡ ends (state self.old) (fallen (state self.old)) a }
         ensures after { Matches (net self.old.graph.now) (state self.new) (next_state (net self.old.graph.now) (at self.old.times) (state self.old)) }

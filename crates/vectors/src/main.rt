@@ -6,24 +6,30 @@ ghost use Rattle.std.specs.Prelude.{◌≡◌, ◌<◌, length};
 
 use report::{ENOUGH, Report, fill};
 
-// The report on the file with one of its bytes set to a value.
-fn damaged(file: &mut [u8], at: usize, value: u8) -> Report
+// What is printed of the file with one of its bytes set to a value.
+fn damaged(
+    rt: &(impl Alloc + Print),
+    file: &mut [u8],
+    at: usize,
+    value: u8,
+) -> anyhow::Result<String>
     requires { at < length file.old }
     ensures { length file.new ≡ length file.old }
 {
     file[at] = value;
-    Report::of(file)
+    let report = Report::of(file);
+    Ok(format!(in rt.alloc(); "{report}")?)
 }
 
-// The reports on the file with one of its bytes set to each value, a line for values in a row with the same report.
-fn damage(rt: &impl Print, file: &mut [u8], at: usize) -> anyhow::Result<()>
+// The reports on the file with one of its bytes set to each value, a line for values in a row of which the same is printed.
+fn damage(rt: &(impl Alloc + Print), file: &mut [u8], at: usize) -> anyhow::Result<()>
     requires { at < length file.old }
 {
     let good = file[at];
     let mut first = 0;
-    let mut said = damaged(file, at, first);
+    let mut said = damaged(rt, file, at, first)?;
     for value in 1..=255 {
-        let says = damaged(file, at, value);
+        let says = damaged(rt, file, at, value)?;
         if says != said {
             let last = value - 1;
             println!(rt; "byte {at}, {first} to {last}: {said}")?;

@@ -17,13 +17,14 @@ returns g c =
     let q = c.serve_and_take-left.new.policy in
     let few = (graph_fitting gr).few.0 in
     let e = c.step-done.ensures in
+    let next = e.tick c.requires.countable in
     let size : length c.actors.result.now ≡ length (actors_in gr) = ap length (c.actors.ensures ∙ ap (λ x. actors_in x.now) (c.graph.ensures ∙ e.graph)) in
     record {
       graph = e.graph;
       times = e.times;
-      tick = e.tick;
+      tick = next;
       ticks = step_done g.P.Policy gr (at run.times) c.requires.timed q (at left) (state run) (state z) (λ a ha. c.serve_and_take-left.ensures.value a (omega arith)) e.after
-          c.args.policy.now c.lay_begun.new.policy run.tick z.tick c.marked.result done c.serve_and_take-left.ensures.serves e.tick e.done (rw e.graph at c.lay_begun.ensures)
+          c.args.policy.now c.lay_begun.new.policy run.tick z.tick c.marked.result done c.serve_and_take-left.ensures.serves next e.done (rw e.graph at c.lay_begun.ensures)
           (c.marked.ensures ∙ many_marked done (length c.actors.result.now) (omega (arith, e.size)) ∙ ap (many (flag done)) size);
       whole = rw e.graph (goes_whole g.P.Policy gr (at run.times) c.requires.timed q (at left) (state run) (state z) (λ a ha. c.serve_and_take-left.ensures.value a (omega arith)) e.after c.requires.whole);
     }
