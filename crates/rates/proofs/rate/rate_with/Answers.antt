@@ -1,4 +1,4 @@
-use Rattle.std.proofs.Common.{◌≡◌, ◌<◌, Err, refl, ap, ◌∙◌, arith, rules}
+use Rattle.std.proofs.Common.{◌≡◌, ◌≢◌, Err, refl, ap, ◌∙◌, arith, rules}
 use Rattle.runs.proofs.Graphs.{graph_some}
 use Rattle.rates.proofs.Going.{answers_so, ends_so, rated_over}
 use Rattle.rates.proofs.Graphs.{follow_begins, follow_comes, follow_on}
@@ -36,9 +36,9 @@ ticks-preserved-then-done c =
     let h = c.in_ok-rate.ensures in
     let n = c.next-done.ensures in
     let o = rw c.in_default.is at (follow_comes i.followed h.rising h.value) in
-    let lt : c.ticks.run.tick < 10_000_000 = omega (arith, c.if-tick-eq-LAST_TICK.false) in
+    let not_last : c.ticks.run.tick ≢ 10_000_000 = omega (arith, c.if-tick-eq-LAST_TICK.false) in
     record {
-      followed = follow_on i.followed lt o n.graph n.times (n.tick (omega arith)) (n.done 0 (graph_some c.ticks.run.graph.now)) n.after
+      followed = follow_on i.followed not_last o n.graph n.times (n.tick (omega (arith, i.followed.going.early))) (n.done 0 (graph_some c.ticks.run.graph.now)) n.after
           (rw (c.if-done.true, c.ended.ensures.ended, i.rep));
       rep = i.rep;
       lender = h.lender ∙ i.lender;
@@ -50,9 +50,9 @@ ticks-preserved c =
     let h = c.in_ok-rate.ensures in
     let n = c.next-done.ensures in
     let o = rw c.in_default.is at (follow_comes i.followed h.rising h.value) in
-    let lt : c.ticks.run.tick < 10_000_000 = omega (arith, c.if-tick-eq-LAST_TICK.false) in
+    let not_last : c.ticks.run.tick ≢ 10_000_000 = omega (arith, c.if-tick-eq-LAST_TICK.false) in
     record {
-      followed = follow_on i.followed lt o n.graph n.times (n.tick (omega arith)) (n.done 0 (graph_some c.ticks.run.graph.now)) n.after
+      followed = follow_on i.followed not_last o n.graph n.times (n.tick (omega (arith, i.followed.going.early))) (n.done 0 (graph_some c.ticks.run.graph.now)) n.after
           (rw c.if-done.false);
       rep = i.rep;
       lender = h.lender ∙ i.lender;
