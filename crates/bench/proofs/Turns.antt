@@ -1,8 +1,9 @@
 -- Whatever a ring shares goes as on paper. Assumes nothing.
-use Rattle.std.proofs.Common.{◌≡◌, ℕ, zero, suc, ◌<◌, ◌≤◌, Bool, true, false, cond, ◌&&◌, eqb, ltb, List, [], ◌∷◌, get_or, Some, None, Option, sym, refl, ap, ◌∙◌, subst, ap₂, inl, inr, arith}
+use Rattle.std.proofs.Common.{◌≡◌, ℕ, zero, suc, ◌<◌, ◌≤◌, Bool, true, false, cond, ◌&&◌, eqb, ltb, List, [], ◌∷◌, length, get_or, Some, None, Option, sym, refl, ap, ◌∙◌, subst, ap₂, inl, inr, arith}
 use Rattle.std.proofs.lemmas.Bool.{cases_eq}
 use Rattle.std.proofs.lemmas.Bool.Decides.{nat_tests}
 use Rattle.policy.specs.Meaning.{layable}
+use Rattle.policy.specs.Works.{works_of, lefts_of}
 use Rattle.policy.specs.Turns.{next, RingMoves}
 use Rattle.policy.specs.declared.ring.Ring.{Ring}
 use Rattle.policy.specs.contracts.ring.RingPolicy.TheImpl.{ghosts}
@@ -21,9 +22,9 @@ sound = record { source_in = λ c hc. omega arith; dest_in = λ c hc. omega arit
 
 -- what a ring holds: lefts f, and the turn of t, which goes on or not
 record Holds (p : Ring) (f : ℕ → ℕ) (t : ℕ) (b : Bool) : Type 0 where
-  count : p.rows.count ≡ 2
-  work : (a : ℕ) → a < 2 → get_or p.rows.works a 0 ≡ works a
-  left : (a : ℕ) → a < 2 → get_or p.rows.left a 0 ≡ f a
+  count : length p.rows.list.items ≡ 2
+  work : (a : ℕ) → a < 2 → get_or (works_of p.rows.list.items) a 0 ≡ works a
+  left : (a : ℕ) → a < 2 → get_or (lefts_of p.rows.list.items) a 0 ≡ f a
   turn : p.turn ≡ t
   busy : p.busy ≡ b
 
@@ -83,7 +84,7 @@ lays_all p q f t b go h idle l =
     let two = lays_one r q _ t b 1 (go 1) (omega arith) one (idle 1 (omega arith)) l.2 l.3 in
     record { count = two.count; work = two.work; left = both (two.left 0 (omega arith)) (two.left 1 (omega arith)); turn = two.turn; busy = two.busy }
   where
-    both : get_or q.rows.left 0 0 ≡ laid go f 0 → get_or q.rows.left 1 0 ≡ laid go f 1 → (a : ℕ) → a < 2 → get_or q.rows.left a 0 ≡ laid go f a
+    both : get_or (lefts_of q.rows.list.items) 0 0 ≡ laid go f 0 → get_or (lefts_of q.rows.list.items) 1 0 ≡ laid go f 1 → (a : ℕ) → a < 2 → get_or (lefts_of q.rows.list.items) a 0 ≡ laid go f a
     both e f' zero lt = e
     both e f' (suc zero) lt = f'
     both e f' (suc (suc a)) lt = absurd (omega arith)
@@ -128,15 +129,15 @@ less_at : (f : ℕ → ℕ) (x a : ℕ) → less f x a ≤ f a
 less_at f x a = omega arith
 
 onwards : (r : Turning) (b z : Stand Ring) (q : Ring) → As r b → Ticks ghosts graph works b q z → As (onward r) z
-onwards r b z q h tk = by (next 2 (r.left 0 ∷ r.left 1 ∷ []) r.turn r.busy) (next_among (r.left 0 ∷ r.left 1 ∷ []) r.turn r.busy h.small) (subst (λ (o : Option ℕ). RingMoves o p.rows.left p.turn p.busy q.rows.left q.turn q.busy) who tk.serves.moves)
+onwards r b z q h tk = by (next 2 (r.left 0 ∷ r.left 1 ∷ []) r.turn r.busy) (next_among (r.left 0 ∷ r.left 1 ∷ []) r.turn r.busy h.small) (subst (λ (o : Option ℕ). RingMoves o (lefts_of p.rows.list.items) p.turn p.busy (lefts_of q.rows.list.items) q.turn q.busy) who tk.serves.moves)
   where
     p : Ring
     p = b.policy
 
-    who : next p.rows.count p.rows.left p.turn p.busy ≡ next 2 (r.left 0 ∷ r.left 1 ∷ []) r.turn r.busy
-    who = next_from p.rows.left _ _ _ _ _ h.ring.count h.ring.turn h.ring.busy ∙ (next_at p.rows.left (r.left 0) (r.left 1) r.turn r.busy (h.ring.left 0 (omega arith)) (h.ring.left 1 (omega arith)) h.small)
+    who : next (length p.rows.list.items) (lefts_of p.rows.list.items) p.turn p.busy ≡ next 2 (r.left 0 ∷ r.left 1 ∷ []) r.turn r.busy
+    who = next_from (lefts_of p.rows.list.items) _ _ _ _ _ h.ring.count h.ring.turn h.ring.busy ∙ (next_at (lefts_of p.rows.list.items) (r.left 0) (r.left 1) r.turn r.busy (h.ring.left 0 (omega arith)) (h.ring.left 1 (omega arith)) h.small)
 
-    by : (o : Option ℕ) → Among o → RingMoves o p.rows.left p.turn p.busy q.rows.left q.turn q.busy → As (moved r o) z
+    by : (o : Option ℕ) → Among o → RingMoves o (lefts_of p.rows.list.items) p.turn p.busy (lefts_of q.rows.list.items) q.turn q.busy → As (moved r o) z
     by None _ m = lands r b z q h tk r.left r.turn r.busy
         (record {
           count = tk.serves.number ∙ h.ring.count;
@@ -147,7 +148,7 @@ onwards r b z q h tk = by (next 2 (r.left 0 ∷ r.left 1 ∷ []) r.turn r.busy) 
         })
         h.small (λ a ha. omega arith)
     by (Some x) lt m =
-        let left : (a : ℕ) → a < 2 → get_or q.rows.left a 0 ≡ less r.left x a = λ a ha. elim (cases_eq a x) [
+        let left : (a : ℕ) → a < 2 → get_or (lefts_of q.rows.list.items) a 0 ≡ less r.left x a = λ a ha. elim (cases_eq a x) [
           | inl same ↦ rw same (omega (arith, served_one x, m.served, h.ring.left x lt))
           | inr other ↦ omega (arith, served_other a x other, m.others a other, h.ring.left a ha)
         ] in

@@ -13,7 +13,8 @@
 -- endings   the ticks up to some tick at which an actor ends a firing
 -- NewRing   a ring of these works, the last actor's turn just ended
 -- OnlyRun   whatever goes by tick 0 and later ticks from such a ring has the counts of that run
-use Rattle.std.specs.Prelude.{◌≡◌, ℕ, zero, suc, ◌-◌, ◌<◌, Bool, false, cond, List, [], ◌∷◌, ◌++◌, Some, None, Option, ◌==◌, nat_lt, slice_index}
+use Rattle.std.specs.Prelude.{◌≡◌, ℕ, zero, suc, ◌-◌, ◌<◌, Bool, false, cond, List, [], ◌∷◌, ◌++◌, length, Some, None, Option, ◌==◌, nat_lt, slice_index}
+use Rattle.policy.specs.Works.{works_of}
 use Rattle.policy.specs.Turns.{next}
 use Rattle.policy.specs.declared.ring.Ring.{Ring}
 use Rattle.policy.specs.contracts.ring.RingPolicy.TheImpl.{ghosts}
@@ -63,8 +64,8 @@ endings a zero = []
 endings a (suc t) = endings a t ++ cond (nat_lt ((shared t).state.ended a) ((shared (suc t)).state.ended a)) (suc t ∷ []) []
 
 pub record NewRing (p : Ring) : Type 0 where
-  pub count : p.rows.count ≡ 2
-  pub works : (a : ℕ) → a < 2 → slice_index p.rows.works a ≡ works a
+  pub count : length p.rows.list.items ≡ 2
+  pub works : (a : ℕ) → a < 2 → slice_index (works_of p.rows.list.items) a ≡ works a
   pub turn : p.turn ≡ 1
 
 abbrev pub OnlyRun : Type 0
