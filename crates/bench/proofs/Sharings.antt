@@ -1,9 +1,9 @@
 -- What the loops of a shared tick come to. Assumes nothing.
-use Rattle.std.proofs.Common.{◌≡◌, ℕ, zero, suc, ◌+◌, ◌<◌, ◌≤◌, Bool, true, false, cond, ◌&&◌, eqb, ltb, List, length, take, replicate, sym, refl, ap, subst, inl, inr, ◌∙◌, ap₂, add-one, arith}
+use Rattle.std.proofs.Common.{◌≡◌, ℕ, zero, suc, ◌+◌, ◌<◌, ◌≤◌, Bool, true, false, cond, ◌&&◌, eqb, ltb, List, length, take, replicate, refl, ap, subst, ◌∙◌, ap₂, add-one, arith}
 use Rattle.std.specs.List.{count_by}
 use Rattle.std.proofs.lemmas.List.Sums.{count_by_more_yes, count_by_more_no}
 use Rattle.std.proofs.lemmas.Bool.Decides.{nat_tests}
-use Rattle.std.proofs.lemmas.Bool.{both_ways, cases_lt}
+use Rattle.std.proofs.lemmas.Bool.{both_ways}
 use Rattle.policy.specs.declared.meaning.Policy.{Ghosts}
 use Rattle.graph.specs.declared.graph.Graph.{Graph}
 use Rattle.model.specs.Net.{Net, State, when, busy, ready, start, ends, finish, tick, initial_state, run}
