@@ -12,7 +12,7 @@ use Rattle.model.specs.Net.{when}
 use Rattle.policy.specs.Slices.{shown, TooLong}
 use Rattle.policy.specs.Turns.{total}
 use Rattle.policy.specs.Wheel.{wide}
-use Rattle.policy.specs.Works.{Workable, RowsMade}
+use Rattle.policy.specs.Works.{Workable, RowsMade, works_of}
 use Rattle.policy.specs.declared.fault.Fault.{Fault}
 use Rattle.policy.specs.declared.fault.Fault.TheVariants.{Crowd, Limits, Promise}
 use Rattle.policy.specs.declared.ring.Ring.{Ring}
@@ -67,8 +67,8 @@ module _ (g : Graph) (times works : List ℕ) (same : (a : ℕ) → at times a �
     most = λ a h. omega (arith, works_are a, limits a (omega (arith, works_many)));
   }
 
-  module _ (r : Ring) (made : RowsMade works r.rows.count r.rows.works r.rows.left) where
-    count_is : r.rows.count ≡ n
+  module _ (r : Ring) (made : RowsMade works r.rows.list.items) where
+    count_is : length r.rows.list.items ≡ n
     count_is = made.number workable ∙ works_many
 
     work_is : (a : ℕ) → (ring_seen r).work a ≡ times_of g a
@@ -76,7 +76,7 @@ module _ (g : Graph) (times works : List ℕ) (same : (a : ℕ) → at times a �
 
     promise_is : (a : ℕ) → wide 5 2 ((ring_seen r).promise a) ≡ promised_to g a
     promise_is a =
-        rw (count_is, total_together r.rows.works (times_of g) n (λ b _. work_is b)) (wide_when (ltb a n) (together (times_of g) n))
+        rw (count_is, total_together (works_of r.rows.list.items) (times_of g) n (λ b _. work_is b)) (wide_when (ltb a n) (together (times_of g) n))
 
     -- a promise is all of it or none
     within : (a : ℕ) → promised_to g a ≤ promised g
@@ -99,7 +99,7 @@ module _ (g : Graph) (times works : List ℕ) (same : (a : ℕ) → at times a �
     pub piled : (p : Slice Ring ghosts) → SliceIs r (Ok p) → PileIs g (Ok p)
     piled p m =
         let fits : (a : ℕ) → wide p.period p.slots ((ring_seen p.below).promise a) ≤ 65535 = λ a. rw (m.0, m.1, m.2) (m.3.fits a) in
-        let many : p.below.rows.count ≡ n = ap (λ (q : Ring). q.rows.count) m.0 ∙ count_is in (
+        let many : length p.below.rows.list.items ≡ n = ap (λ (q : Ring). length q.rows.list.items) m.0 ∙ count_is in (
           omega (arith, m.3.fits 0, promise_is 0, first_is),
           λ a. record {
             there = λ h. omega arith;

@@ -1,8 +1,9 @@
 -- The pile that a card is shared by: a slice of 2 in 5 over a ring of all the graph's actors. Assumes nothing.
-use Rattle.std.specs.Prelude.{◌≡◌, ℕ, ◌<◌, ◌≤◌, Ok, Err, Result}
+use Rattle.std.specs.Prelude.{◌≡◌, ℕ, ◌<◌, ◌≤◌, length, Ok, Err, Result}
 use Rattle.graph.specs.declared.graph.Graph.{Graph}
 use Rattle.policy.specs.Meaning.{View}
 use Rattle.policy.specs.Slices.{sliced, Sliceable, SliceChecked}
+use Rattle.policy.specs.Works.{works_of, lefts_of}
 use Rattle.policy.specs.Turns.{ringed}
 use Rattle.policy.specs.declared.fault.Fault.{Fault as PolicyFault}
 use Rattle.policy.specs.declared.fault.Fault.TheVariants.{Promise}
@@ -17,7 +18,7 @@ use Rattle.report.specs.Lines.{promised, promised_to}
 
 -- what a ring and a slice over it show
 abbrev pub ring_seen : Ring → View
-ring_seen r = ringed r.rows.count r.rows.works r.rows.left r.turn r.busy
+ring_seen r = ringed (length r.rows.list.items) (works_of r.rows.list.items) (lefts_of r.rows.list.items) r.turn r.busy
 
 abbrev pub pile_seen : Slice Ring ghosts → View
 pile_seen p = sliced (ring_seen p.below) p.period p.slots p.wheel
