@@ -21,7 +21,7 @@ trait Part {
         ensures lender { writer.new.buffer.ghost_name ≡ writer.old.buffer.ghost_name };
 }
 
-// The value of an actor's field.
+// The value of an actor's field. A name says more here than `From`: bytes of a file, and not of an actor at large.
 fn actor_value(actor: &Actor) -> [u8; 10]
     ensures { result ≡ actor_value actor.now }
 {
