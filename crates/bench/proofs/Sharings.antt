@@ -3,7 +3,6 @@ use Rattle.std.proofs.Common.{◌≡◌, ℕ, zero, suc, ◌+◌, ◌<◌, ◌�
 use Rattle.std.specs.List.{count_by}
 use Rattle.std.proofs.lemmas.List.Sums.{count_by_more_yes, count_by_more_no}
 use Rattle.std.proofs.lemmas.Bool.Decides.{nat_tests}
-use Rattle.std.proofs.lemmas.Bool.{both_ways}
 use Rattle.policy.specs.declared.meaning.Policy.{Ghosts}
 use Rattle.graph.specs.declared.graph.Graph.{Graph}
 use Rattle.model.specs.Net.{Net, State, when, busy, ready, start, ends, finish, tick, initial_state, run}
@@ -15,7 +14,7 @@ use Rattle.runs.specs.Loops.{flag}
 use Rattle.runs.specs.Places.{Whole}
 use Rattle.runs.proofs.Graphs.{graph_fitting, graph_timed}
 use Rattle.runs.proofs.Places.{first_whole, tick_whole}
-use Rattle.bench.specs.Sharing.{Asked, Lays, newly, stand, many, Begins, Stepped}
+use Rattle.bench.specs.Sharing.{Lays, newly, stand, many, Begins, Stepped}
 
 pub matches_refl : (n : Net) (s : State) → Matches n s s
 matches_refl n s = record { alike = record { tokens = λ c hc. refl; free = λ c hc. refl; left = λ a ha. refl }; ended = λ a ha. refl }
@@ -30,13 +29,6 @@ pub lays_same : {X : Type 0} (m : Ghosts X) (go go' : ℕ → Bool) (k : ℕ) (p
 lays_same m go go' zero p q e h = h
 lays_same m go go' (suc k) p q e h =
     (h.0, lays_same m go go' k p h.0 (λ a lt. e a (omega arith)) h.1, (λ t. h.2 (e k (omega arith) ∙ t)), (λ t. h.3 (e k (omega arith) ∙ t)))
-
--- one more starts, and lay is asked for it; or it does not start
-pub lays_start : {X : Type 0} (m : Ghosts X) (go : ℕ → Bool) (k : ℕ) (p r q : X) → Lays m go k p r → go k ≡ true → Asked m r k q → Lays m go (k + 1) p q
-lays_start m go k p r q l e asked = rw add-one (r, l, (λ _. asked), (λ f. absurd (both_ways (go k) f e)))
-
-pub lays_stay : {X : Type 0} (m : Ghosts X) (go : ℕ → Bool) (k : ℕ) (p r q : X) → Lays m go k p r → go k ≡ false → q ≡ r → Lays m go (k + 1) p q
-lays_stay m go k p r q l e same = rw add-one (r, l, (λ t. absurd (both_ways (go k) e t)), (λ _. same))
 
 pub many_same : (f f' : ℕ → Bool) (k : ℕ) → ((a : ℕ) → a < k → f a ≡ f' a) → many f k ≡ many f' k
 many_same f f' zero e = refl
