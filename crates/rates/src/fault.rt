@@ -22,7 +22,7 @@ impl Fault {
         "bench"
     }
 
-    // The number of the refusal.
+    // The number that is printed of the refusal.
     pub fn number(self) -> u8
         ensures { result ≡ number_of self }
     {
@@ -34,7 +34,7 @@ impl Fault {
         }
     }
 
-    // The actor concerned, or 0.
+    // The actor that is printed of the refusal, or 0.
     pub fn place(self) -> u8
         ensures { result ≡ place_of self }
     {

@@ -9,13 +9,13 @@ use crate::rate::{Rate, rate_with};
 use crate::sample::Sample;
 use graph::Graph;
 use policy::Policy;
-use std::array::from_fn;
+use std::array;
 
 // The policy's promises, by actor.
 fn promises<P: Policy>(policy: &P) -> [u16; 16]
     ensures { (a : ℕ) → at result a ≡ (P.Policy.view policy.now).promise a }
 {
-    from_fn(|a| policy.promise(a as u8))
+    array::from_fn(|a| policy.promise(a as u8))
 }
 
 // The rate of the run with the policy's promises for times, with the caller's rows for its samples.

@@ -52,7 +52,7 @@ fn judged(run: &Run<'_>, due: bool, table: &mut Table<'_, Sample>) -> Result<Opt
 }
 
 // The rate of a graph's run with a table of times.
-pub fn rate_with(graph: &Graph, times: [u16; 16], rows: &mut [Sample]) -> Result<Rate, Fault>
+pub(crate) fn rate_with(graph: &Graph, times: [u16; 16], rows: &mut [Sample]) -> Result<Rate, Fault>
     ensures { Rated (net graph.now) (at times) (reps_of graph.now 0) rows.old rows.new result }
 {
     let rep = u32::from(graph.counts()[0]);

@@ -4,7 +4,7 @@ ghost use Rattle.runs.specs.Seen.{net, state};
 ghost use Rattle.rates.specs.Rows.{same_row, row_of};
 
 use runs::Run;
-use std::array::from_fn;
+use std::array;
 use table::Record;
 
 // What stood at a tick: the tokens by channel and the ticks left by actor, zeros after those of the graph.
@@ -30,8 +30,8 @@ impl From<&Run<'_>> for Sample {
     // What stands in a run.
     fn from(run: &Run<'_>) -> Sample {
         Sample {
-            tokens: from_fn(|c| run.tokens(c)),
-            left: from_fn(|a| run.left(a)),
+            tokens: array::from_fn(|c| run.tokens(c)),
+            left: array::from_fn(|a| run.left(a)),
             tick: run.tick(),
         }
     }
