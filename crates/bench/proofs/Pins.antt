@@ -3,9 +3,9 @@ use Rattle.std.proofs.Common.{◌≡◌, ℕ, zero, suc, ◌+◌, ◌<◌, ◌�
 use Rattle.std.proofs.lemmas.Bool.{cases_eq, cases_Bool}
 use Rattle.policy.specs.declared.meaning.Policy.{Ghosts}
 use Rattle.policy.specs.Meaning.{Alike as AlikeViews, layable}
-use Rattle.model.specs.Net.{Net, Sound, State, ready, ends, finish, initial_state, run}
+use Rattle.model.specs.Net.{Net, Sound, ready, ends, finish, initial_state}
 use Rattle.model.specs.Likeness.{Matches}
-use Rattle.model.proofs.Alikes.{ready_alike, finish_alike, tick_matches}
+use Rattle.model.proofs.Alikes.{matches_trans, ready_alike, finish_alike, tick_matches}
 use Rattle.runs.specs.Seen.{taken}
 use Rattle.rates.specs.declared.fault.Fault.{Fault}
 use Rattle.rates.specs.declared.fault.Fault.TheVariants.{LastTick, Absent}
@@ -16,7 +16,7 @@ use Rattle.bench.specs.declared.call.Answer.{Answer}
 use Rattle.bench.specs.declared.call.Answer.TheVariants.{Ticked, Counted, Held, Owed, Restarted}
 use Rattle.bench.specs.Sharing.{Stand, Asked, Lays, Begins, Ticks, ended_now}
 use Rattle.bench.specs.Story.{Serves, Does, ticked, late, counted, no_count, held, no_tokens, owed, no_due, restarted, Story, joined, called}
-use Rattle.bench.proofs.Sharings.{many_same}
+use Rattle.bench.proofs.Sharings.{matches_sym, many_same}
 
 -- like policies show the same, and each call makes like ones of them
 pub record OneOutcome {X : Type 0} (m : Ghosts X) (like : X → X → Type 0) : Type 0 where
@@ -29,20 +29,6 @@ record SameStand {X : Type 0} (n : Net) (like : X → X → Type 0) (z w : Stand
   tick : z.tick ≡ w.tick
   state : Matches n z.state w.state
   policy : like z.policy w.policy
-
--- two states that match one each, which match
-meet : (n : Net) (s z w v : State) → Matches n s z → Matches n z w → Matches n v w → Matches n s v
-meet n s z w v h k l = record {
-  alike = record {
-    tokens = λ c hc. h.alike.tokens c hc ∙ (k.alike.tokens c hc ∙ sym (l.alike.tokens c hc));
-    free = λ c hc. h.alike.free c hc ∙ (k.alike.free c hc ∙ sym (l.alike.free c hc));
-    left = λ a ha. h.alike.left a ha ∙ (k.alike.left a ha ∙ sym (l.alike.left a ha));
-  };
-  ended = λ a ha. h.ended a ha ∙ (k.ended a ha ∙ sym (l.ended a ha));
-}
-
-itself : (n : Net) (s : State) → Matches n s s
-itself n s = record { alike = record { tokens = λ c hc. refl; free = λ c hc. refl; left = λ a ha. refl }; ended = λ a ha. refl }
 
 module _ {X : Type 0} (m : Ghosts X) (like : X → X → Type 0) (one : OneOutcome m like) where
   asked_same : (p p' q q' : X) (a : ℕ) → like p q → Asked m p a p' → Asked m q a q' → like p' q'
@@ -66,7 +52,7 @@ module _ {X : Type 0} (m : Ghosts X) (like : X → X → Type 0) (one : OneOutco
     begins_same : (p q : X) (z w : Stand X) → like p q → Begins m n time p z → Begins m n time q w → SameStand n like z w
     begins_same p q z w e x y = record {
       tick = x.first ∙ sym y.first;
-      state = meet n _ _ _ _ x.starts (itself n (run n time 0)) y.starts;
+      state = matches_trans n _ _ _ x.starts (matches_sym n _ _ y.starts);
       policy = lays_like (ready n (initial_state n)) (ready n (initial_state n)) n.actors x.cleared z.policy y.cleared w.policy (λ a lt. refl)
           (one.clears p x.cleared q y.cleared e x.clears y.clears) x.lays y.lays;
     }
@@ -87,7 +73,7 @@ module _ {X : Type 0} (m : Ghosts X) (like : X → X → Type 0) (one : OneOutco
       ticks_same : SameStand n like z w
       ticks_same = record {
         tick = x.next ∙ (ap (λ t. t + 1) s.tick ∙ sym y.next);
-        state = meet n _ _ _ _ x.goes (tick_matches n sound time lb ld b.state d.state s.state left_same) y.goes;
+        state = matches_trans n _ _ _ x.goes (matches_trans n _ _ _ (tick_matches n sound time lb ld b.state d.state s.state left_same) (matches_sym n _ _ y.goes));
         policy = lays_like (ready n (finish n lb b.state)) (ready n (finish n ld d.state)) n.actors q z.policy r w.policy
             (λ a lt. ready_alike n sound _ _ (finish_alike n sound lb ld b.state d.state s.state.alike left_same) a lt) served x.lays y.lays;
       }

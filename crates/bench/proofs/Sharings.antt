@@ -1,33 +1,34 @@
 -- What the loops of a shared tick come to. Assumes nothing.
-use Rattle.std.proofs.Common.{◌≡◌, ℕ, zero, suc, ◌+◌, ◌<◌, ◌≤◌, Bool, true, false, cond, ◌&&◌, eqb, ltb, List, length, take, replicate, refl, ap, subst, ◌∙◌, ap₂, add-one, arith}
+use Rattle.std.proofs.Common.{◌≡◌, ℕ, zero, suc, ◌+◌, ◌<◌, ◌≤◌, Bool, true, false, cond, ◌&&◌, eqb, ltb, List, length, take, replicate, sym, refl, ap, subst, ◌∙◌, ap₂, add-one, arith}
 use Rattle.std.specs.List.{count_by}
 use Rattle.std.proofs.lemmas.List.Sums.{count_by_more_yes, count_by_more_no}
 use Rattle.std.proofs.lemmas.Bool.Decides.{nat_tests}
-use Rattle.std.proofs.lemmas.Bool.{both_ways}
 use Rattle.policy.specs.declared.meaning.Policy.{Ghosts}
 use Rattle.graph.specs.declared.graph.Graph.{Graph}
 use Rattle.model.specs.Net.{Net, State, when, busy, ready, start, ends, finish, tick, initial_state, run}
 use Rattle.model.specs.Likeness.{Matches}
 use Rattle.model.proofs.Ready.{ready_true}
-use Rattle.model.proofs.Alikes.{alike_trans, tick_matches}
+use Rattle.model.proofs.Alikes.{matches_trans, tick_matches}
 use Rattle.runs.specs.Seen.{net, at, times_of, taken}
 use Rattle.runs.specs.Loops.{flag}
 use Rattle.runs.specs.Places.{Whole}
 use Rattle.runs.proofs.Graphs.{graph_fitting, graph_timed}
 use Rattle.runs.proofs.Places.{first_whole, tick_whole}
-use Rattle.bench.specs.Sharing.{Asked, Lays, newly, stand, many, Begins, Stepped}
+use Rattle.bench.specs.Sharing.{Lays, newly, stand, many, Begins, Stepped}
+
+pub matches_refl : (n : Net) (s : State) → Matches n s s
+matches_refl n s = record { alike = record { tokens = λ c hc. refl; free = λ c hc. refl; left = λ a ha. refl }; ended = λ a ha. refl }
+
+pub matches_sym : (n : Net) (s z : State) → Matches n s z → Matches n z s
+matches_sym n s z h = record {
+  alike = record { tokens = λ c hc. sym (h.alike.tokens c hc); free = λ c hc. sym (h.alike.free c hc); left = λ a ha. sym (h.alike.left a ha) };
+  ended = λ a ha. sym (h.ended a ha);
+}
 
 pub lays_same : {X : Type 0} (m : Ghosts X) (go go' : ℕ → Bool) (k : ℕ) (p q : X) → ((a : ℕ) → a < k → go a ≡ go' a) → Lays m go k p q → Lays m go' k p q
 lays_same m go go' zero p q e h = h
 lays_same m go go' (suc k) p q e h =
     (h.0, lays_same m go go' k p h.0 (λ a lt. e a (omega arith)) h.1, (λ t. h.2 (e k (omega arith) ∙ t)), (λ t. h.3 (e k (omega arith) ∙ t)))
-
--- one more starts, and lay is asked for it; or it does not start
-pub lays_start : {X : Type 0} (m : Ghosts X) (go : ℕ → Bool) (k : ℕ) (p r q : X) → Lays m go k p r → go k ≡ true → Asked m r k q → Lays m go (k + 1) p q
-lays_start m go k p r q l e asked = rw add-one (r, l, (λ _. asked), (λ f. absurd (both_ways (go k) f e)))
-
-pub lays_stay : {X : Type 0} (m : Ghosts X) (go : ℕ → Bool) (k : ℕ) (p r q : X) → Lays m go k p r → go k ≡ false → q ≡ r → Lays m go (k + 1) p q
-lays_stay m go k p r q l e same = rw add-one (r, l, (λ t. absurd (both_ways (go k) e t)), (λ _. same))
 
 pub many_same : (f f' : ℕ → Bool) (k : ℕ) → ((a : ℕ) → a < k → f a ≡ f' a) → many f k ≡ many f' k
 many_same f f' zero e = refl
@@ -79,11 +80,7 @@ module _ {X : Type 0} (m : Ghosts X) (g : Graph) (times : ℕ → ℕ) (timed : 
     same a ha = taken_again s left (m.view q).left a (took a ha)
 
     goes : Matches n w (tick n time new s)
-    goes =
-        let h = over_time (λ t. Matches n w (tick n t (taken s left) s)) st in
-        let e = tick_matches n (graph_fitting g).sound time (taken s left) new s s
-        (record { alike = record { tokens = λ c hc. refl; free = λ c hc. refl; left = λ a ha. refl }; ended = λ a ha. refl }) same in
-        record { alike = alike_trans n _ _ _ h.alike e.alike; ended = λ a ha. h.ended a ha ∙ e.ended a ha }
+    goes = matches_trans n _ _ _ (over_time (λ t. Matches n w (tick n t (taken s left) s)) st) (tick_matches n (graph_fitting g).sound time (taken s left) new s s (matches_refl n s) same)
 
     pub goes_whole : Whole n s → Whole n w
     goes_whole whole = tick_whole n (graph_fitting g).sound time (graph_timed g) s w (m.view q).left goes.alike whole

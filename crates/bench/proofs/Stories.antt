@@ -2,7 +2,10 @@
 use Rattle.std.proofs.Common.{◌≡◌, ℕ, ◌+◌, ◌<◌, ◌≤◌, ◌≢◌, List, [], length, get_or, set, Some, None, Ok, Err, Option, Result, sym, ap, ◌∙◌, subst, inl, inr, add-one, arith, get_or-set_other, get_or-set_same}
 use Rattle.std.proofs.lemmas.Bool.{cases_eq}
 use Rattle.policy.specs.declared.meaning.Policy.{Ghosts}
-use Rattle.model.specs.Net.{Net, Sound, Timed}
+use Rattle.graph.specs.declared.graph.Graph.{Graph}
+use Rattle.model.specs.Net.{Net}
+use Rattle.runs.specs.Seen.{net, times_of}
+use Rattle.runs.proofs.Graphs.{graph_fitting, graph_timed}
 use Rattle.rates.specs.declared.fault.Fault.{Fault}
 use Rattle.rates.specs.declared.fault.Fault.TheVariants.{Works}
 use Rattle.rates.specs.Agree.{Lowest}
@@ -14,7 +17,8 @@ use Rattle.bench.specs.declared.call.Answer.TheVariants.{Restarted}
 use Rattle.bench.specs.Sharing.{Stand, Begins}
 use Rattle.bench.specs.Story.{Serves, InStep, Does, ticked, late, counted, no_count, held, no_tokens, owed, no_due, restarted, Story, joined, called, Followed}
 use Rattle.bench.specs.Calls.{PerformIs}
-use Rattle.bench.proofs.Shared.{Means, joins_in_step, begins_in_step, ticks_in_step}
+use Rattle.bench.proofs.Shared.{Means, begins_in_step, ticks_in_step}
+use Rattle.bench.proofs.Answered.{joined_so}
 
 -- the answers below i are those of a story, with the bench in step, or the join's refusals
 abbrev pub SoFar : {X : Type 0} → Ghosts X → Net → (ℕ → ℕ) → X → List Call → List (Result Answer Fault) → ℕ → Stand X → Option ℕ → Type 0
@@ -33,9 +37,16 @@ set_same xs i x lt = rw get_or-set_same
 pub set_other : (xs : List (Result Answer Fault)) (i k : ℕ) (x : Result Answer Fault) → k ≢ i → get_or (set xs i x) k (Ok Restarted) ≡ get_or xs k (Ok Restarted)
 set_other xs i k x ne = rw get_or-set_other
 
-module _ {X : Type 0} (m : Ghosts X) (means : Means m) (n : Net) (sound : Sound n) (time : ℕ → ℕ) (pos : Timed n time) (p : X) where
+-- over a graph, with its times, of a bench that is joined with p
+module _ {X : Type 0} (m : Ghosts X) (means : Means m) (g : Graph) (p : X) where
+  abbrev n : Net
+  n = net g
+
+  abbrev time : ℕ → ℕ
+  time = times_of g
+
   does_in_step : (h : Serves X) (b : Stand X) {c : Call} {r : Result Answer Fault} {z : Stand X} {h' : Serves X} → InStep m n time p h b → Does m n time b h c r z h' → InStep m n time p h' z
-  does_in_step h b i (ticked q z lt t) = ticks_in_step m means n sound time pos p i.agreed h b z q i t
+  does_in_step h b i (ticked q z lt t) = ticks_in_step m means n (graph_fitting g).sound time (graph_timed g) p i.agreed h b z q i t
   does_in_step h b i (late e) = i
   does_in_step h b i (counted a e) = i
   does_in_step h b i (no_count a e) = i
@@ -43,11 +54,11 @@ module _ {X : Type 0} (m : Ghosts X) (means : Means m) (n : Net) (sound : Sound 
   does_in_step h b i (no_tokens c e) = i
   does_in_step h b i (owed a e) = i
   does_in_step h b i (no_due a e) = i
-  does_in_step h b i (restarted z e) = begins_in_step m means n sound time pos p i.agreed b.policy z i.terms e
+  does_in_step h b i (restarted z e) = begins_in_step m means n (graph_fitting g).sound time (graph_timed g) p i.agreed b.policy z i.terms e
 
   module _ (calls : List Call) where
     pub story_begins : (o : Option ℕ) (answers : List (Result Answer Fault)) (z : Stand X) → Lowest n time (m.view p) o → Begins m n time p z → SoFar m n time p calls answers 0 z o
-    story_begins None answers z agreed b = let i = joins_in_step m means n sound time pos p z b agreed in ([], joined z b i.kept, i)
+    story_begins None answers z agreed b = let i = joined_so m means g p z b agreed in ([], joined z b i.kept, i)
     story_begins (Some a) answers z d b = (b, λ j lt. absurd (omega arith))
 
     pub story_goes_on : (o : Option ℕ) (answers : List (Result Answer Fault)) (i : ℕ) (b z : Stand X) (r : Result Answer Fault) → i < length answers →

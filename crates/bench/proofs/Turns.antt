@@ -10,7 +10,7 @@ use Rattle.policy.specs.contracts.ring.RingPolicy.TheImpl.{ghosts}
 use Rattle.model.specs.Net.{Sound, State, when, ready, finish, initial_state}
 use Rattle.model.specs.Likeness.{Matches}
 use Rattle.model.proofs.Ready.{ready_true}
-use Rattle.model.proofs.Alikes.{alike_trans, ready_alike, finish_alike, tick_matches}
+use Rattle.model.proofs.Alikes.{matches_trans, ready_alike, finish_alike, tick_matches}
 use Rattle.runs.specs.Seen.{taken}
 use Rattle.bench.specs.Sharing.{Stand, Asked, Lays, Begins, Ticks}
 use Rattle.bench.specs.Worked.{graph, works, Turning, less, laid, goes, first, moved, onward, shared, NewRing, OnlyRun}
@@ -112,7 +112,7 @@ module _ (r : Turning) (b z : Stand Ring) (q : Ring) (h : As r b) (tk : Ticks gh
   lands =
       let e = tick_matches graph sound works (taken b.state (ghosts.view q).left) (taken r.state f) b.state r.state h.state took in
       record {
-        state = record { alike = alike_trans graph _ _ _ tk.goes.alike e.alike; ended = λ a ha. tk.goes.ended a ha ∙ e.ended a ha };
+        state = matches_trans graph _ _ _ tk.goes e;
         ring = lays_all q z.policy f t on (ready graph s) hq (λ a ha go. sym (plain a ha) ∙ at_rest (taken r.state f a) (ready_true graph s a go).0)
             (lays_same ghosts _ (ready graph s) 2 q z.policy (λ a ha. ready_alike graph sound _ _ (finish_alike graph sound _ _ b.state r.state h.state.alike took) a ha) tk.lays);
         same = λ a ha. ap (λ x. cond (ready graph s a) (works a) x) (plain a ha);

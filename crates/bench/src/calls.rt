@@ -13,7 +13,7 @@ use policy::Policy;
 use rates::{Fault, LAST_TICK, lowest_differing};
 use runs::{Run, times};
 
-// What becomes of a join of which that is the lowest actor at which graph and policy do not agree, if any.
+// A join is accepted, or refused for the lowest actor at which graph and policy do not agree.
 fn accepted(refused: Option<u8>) -> Result<(), Fault>
     ensures { MatchOption refused (result ≡ Ok tt) (λ a. result ≡ Err (Fault.Works a)) }
 {
@@ -62,13 +62,14 @@ impl<'g, P: Policy> Bench<'g, P> {
         Ok((self.run.tick(), ended))
     }
 
-    // The number of an actor or a channel that is asked of, where so many are there.
+    // The number that is asked of, where so many actors or channels are there.
     fn asked(&self, number: u8, there: usize) -> Result<usize, Fault>
         ensures { QuestionIs self.now.refused there (λ i. i) number result }
     {
         accepted(self.refused)?;
-        if usize::from(number) < there {
-            Ok(usize::from(number))
+        let number = usize::from(number);
+        if number < there {
+            Ok(number)
         } else {
             Err(Fault::Absent)
         }

@@ -10,6 +10,8 @@ use policy::Policy;
 use runs::Run;
 use std::array;
 
+// Over policy and run apart: a method of the bench would have to promise that the rest of it stays.
+
 // The ticks left that the policy has of an actor, if a firing of it is under way.
 fn taken_by<P: Policy>(a: usize, policy: &P, run: &Run<'_>) -> u16
     requires { a < 16 }
@@ -29,7 +31,6 @@ fn serve_and_take<P: Policy>(policy: &mut P, run: &Run<'_>) -> [u16; 16]
     ensures value { (a : ℕ) → a < 16 → at result a ≡ taken (state run.now) (P.Policy.view policy.new).left a }
 {
     policy.serve();
-    let policy = &*policy;
     array::from_fn(|a| taken_by(a, policy, run))
 }
 
