@@ -11,7 +11,7 @@ use Rattle.runs.specs.Seen.{at}
 use Rattle.leaps.specs.declared.store.Store.{Store}
 use Rattle.leaps.specs.declared.list.Move.{Move}
 use Rattle.leaps.specs.declared.moves.Moves.{Moves}
-use Rattle.leaps.specs.Stores.{store_at, is_of, rate_at, move_at, moves_below, moved}
+use Rattle.leaps.specs.Stores.{store_at, is_of, rate_of, move_at, moves_below, moved}
 use Rattle.leaps.specs.Moves.{has}
 
 module _ (ss : List Store) (a : ℕ) where
@@ -58,7 +58,7 @@ module _ (ss : List Store) (a : ℕ) where
         next (λ ms. sum_at ms ≡ 0) k (push k 0 0 rest (other k (omega arith))) rest
 
     -- at each of them its rate is moved, if it is the actor's
-    pub moves_sum : (k : ℕ) → e < k → sum_at (moves_below k ss a) ≡ rate_at ss a e
+    pub moves_sum : (k : ℕ) → e < k → sum_at (moves_below k ss a) ≡ rate_of ss a e
     moves_sum zero lt = absurd (omega arith)
     moves_sum (suc k) lt = elim (cases_eq k e) [
       | inl here ↦
@@ -68,8 +68,8 @@ module _ (ss : List Store) (a : ℕ) where
             | inr not_mine ↦ rw not_mine none
           ])
       | inr ne ↦
-          let rest : sum_at (moves_below k ss a) ≡ rate_at ss a e = moves_sum k (omega arith) in
-          next (λ ms. sum_at ms ≡ rate_at ss a e) k (push k _ 0 rest (other k ne) ∙ add-zero _) rest
+          let rest : sum_at (moves_below k ss a) ≡ rate_of ss a e = moves_sum k (omega arith) in
+          next (λ ms. sum_at ms ≡ rate_of ss a e) k (push k _ 0 rest (other k ne) ∙ add-zero _) rest
     ]
 
 -- a move finds its rate

@@ -7,7 +7,7 @@ use Rattle.std.proofs.lemmas.List.Sums.{sum_by_more, sum_by_more_le}
 use Rattle.runs.specs.Seen.{at}
 use Rattle.leaps.specs.declared.list.Move.{Move}
 use Rattle.leaps.specs.declared.moves.Moves.{Moves}
-use Rattle.leaps.specs.Stores.{rate_at, moved, list_at}
+use Rattle.leaps.specs.Stores.{rate_of, moved, list_at}
 use Rattle.leaps.specs.Moves.{IsWalk, Moved}
 use Rattle.leaps.proofs.Listed.{moves_within, moves_sum}
 
@@ -37,7 +37,7 @@ module _ (ms : List Move) (i : ℕ) (d : Move) (lt : i < length ms) where
   more e = sum_by_more (moved e) ms i d lt
 
   -- what was moved at its store, and its rate, are within the actor's rate there
-  pub walked_le : (w : Moves) (a : ℕ) → IsWalk w a ms → sum_by (moved m.store) (take i ms) + m.rate ≤ rate_at w.stores a m.store
+  pub walked_le : (w : Moves) (a : ℕ) → IsWalk w a ms → sum_by (moved m.store) (take i ms) + m.rate ≤ rate_of w.stores a m.store
   walked_le w a h = omega (arith, moved_here, sum_by_more_le (moved m.store) ms i d lt, h.rates m.store (h.within i d lt))
 
   pub walked_more : (f : ℕ → ℕ → ℕ) (xs ys : List ℕ) → ((x s r : ℕ) → f (f x s) r ≡ f x (s + r)) → m.store < 64 → Walked f ms i xs ys → Walked f ms (i + 1) xs (set ys m.store (f (at ys m.store) m.rate))

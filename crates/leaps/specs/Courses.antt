@@ -18,7 +18,7 @@ use Rattle.runs.specs.Loops.{flag}
 use Rattle.runs.specs.Seen.{at}
 use Rattle.leaps.specs.declared.moves.Moves.{Moves}
 use Rattle.leaps.specs.declared.course.Course.{Course}
-use Rattle.leaps.specs.Stores.{store_at, owner_is, rate_at}
+use Rattle.leaps.specs.Stores.{store_at, owner_is, rate_of}
 use Rattle.leaps.specs.Moves.{has_all}
 use Rattle.leaps.specs.Plans.{wakes_at}
 
@@ -32,7 +32,7 @@ abbrev pub can_start : Moves → Course → ℕ → Bool
 can_start m k a = flag k.woken a && (idle k a && has_all m a k.levels)
 
 pub record StartedOne (m : Moves) (a end : ℕ) (k z : Course) : Type 0 where
-  pub levels : (e : ℕ) → e < 64 → at z.levels e ≡ at k.levels e - when (can_start m k a) (rate_at m.stores a e)
+  pub levels : (e : ℕ) → e < 64 → at z.levels e ≡ at k.levels e - when (can_start m k a) (rate_of m.stores a e)
   pub until : (b : ℕ) → until_at z b ≡ (if can_start m k a && b == a then Some end else until_at k b)
   pub woken : z.woken ≡ k.woken
 
@@ -47,13 +47,13 @@ pub record Woken (i : ℕ) (wakes xs ys : List Bool) : Type 0 where
   pub stay : (b : ℕ) → i ≤ b → flag ys b ≡ flag xs b
 
 abbrev pub Roomy : Moves → ℕ → Course → Type 0
-Roomy m a k = (e : ℕ) → e < 64 → at k.levels e + rate_at m.stores a e < 65536
+Roomy m a k = (e : ℕ) → e < 64 → at k.levels e + rate_of m.stores a e < 65536
 
 abbrev pub is_over : Course → ℕ → ℕ → Bool
 is_over k tick a = option_map_or (λ end. end == tick) (until_at k a) false
 
 pub record EndedOne (m : Moves) (wakes : List (List Bool)) (a tick : ℕ) (k z : Course) : Type 0 where
-  pub levels : (e : ℕ) → e < 64 → at z.levels e ≡ at k.levels e + when (is_over k tick a) (rate_at m.stores a e)
+  pub levels : (e : ℕ) → e < 64 → at z.levels e ≡ at k.levels e + when (is_over k tick a) (rate_of m.stores a e)
   pub until : (b : ℕ) → until_at z b ≡ (if is_over k tick a && b == a then None else until_at k b)
   pub woken : (b : ℕ) → b < 16 → flag z.woken b ≡ (flag k.woken b || (is_over k tick a && wakes_at wakes a b))
 

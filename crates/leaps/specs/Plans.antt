@@ -1,7 +1,9 @@
 -- A graph's channels as the moves of its actors, and which actors an end may make ready. Assumes nothing.
 --
 -- other     the other end of a channel
--- store_of  the actor at an end, and its rate there
+-- actor_at  the actor at an end
+-- rate_at   its rate there
+-- store_of  both, as a store
 -- MovesOf   the stores of channels: tokens move at one end, free places at the other
 -- wakes_at  a mark of a table of rows of marks
 -- Wakes     an end of an actor may make itself ready, and the actors at the other ends of its channels
@@ -20,9 +22,16 @@ abbrev pub other : End → End
 other Source = Dest
 other Dest = Source
 
+abbrev pub actor_at : End → Channel → ℕ
+actor_at Source c = c.source
+actor_at Dest c = c.dest
+
+abbrev pub rate_at : End → Channel → ℕ
+rate_at Source c = c.p
+rate_at Dest c = c.q
+
 abbrev pub store_of : End → Channel → Store
-store_of Source c = record { owner = Some c.source; rate = c.p }
-store_of Dest c = record { owner = Some c.dest; rate = c.q }
+store_of e c = record { owner = Some (actor_at e c); rate = rate_at e c }
 
 -- of the channels below i
 pub record MovesOf (i : ℕ) (e : End) (cs : List Channel) (stores : List Store) : Type 0 where

@@ -3,7 +3,7 @@
 -- store_at     a store by its number, nobody's past the last
 -- owner_is     the store has an owner, one of the sixteen, who is so
 -- is_of        it is the actor's
--- rate_at      the actor's rate at a store, 0 at one that is not its own
+-- rate_of      the actor's rate at a store, 0 at one that is not its own
 -- move_at      the move at a store of its owner's firing
 -- moves_below  the actor's moves at the first so many stores
 -- moves_of     those at all
@@ -26,8 +26,8 @@ owner_is s p = option_map_or (λ a. nat_lt a 16 && p a) s.owner false
 abbrev pub is_of : ℕ → Store → Bool
 is_of a s = owner_is s (λ b. b == a)
 
-abbrev pub rate_at : List Store → ℕ → ℕ → ℕ
-rate_at ss a e = when (is_of a (store_at ss e)) (store_at ss e).rate
+abbrev pub rate_of : List Store → ℕ → ℕ → ℕ
+rate_of ss a e = when (is_of a (store_at ss e)) (store_at ss e).rate
 
 abbrev pub move_at : List Store → ℕ → Move
 move_at ss e = record { store = e; rate = (store_at ss e).rate }

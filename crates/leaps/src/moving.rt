@@ -1,7 +1,7 @@
 // What a firing of an actor does to its stores.
 ghost use Rattle.std.specs.Prelude.{◌≡◌, ℕ, ◌+◌, ◌-◌, ◌<◌, ◌≤◌};
 ghost use Rattle.runs.specs.Seen.{at};
-ghost use Rattle.leaps.specs.Stores.{rate_at};
+ghost use Rattle.leaps.specs.Stores.{rate_of};
 ghost use Rattle.leaps.specs.Moves.{IsWalk, Moved, has_all};
 
 use crate::list::Move;
@@ -21,7 +21,7 @@ impl Moves {
     // Adds the actor's rate at each of its stores.
     // One walk over a closure, for this and the taking, is no plainer: it has to ask that the closure fits what earlier moves left.
     pub fn give(&self, a: usize, levels: &mut [u16; 64])
-        requires room { (e : ℕ) → e < 64 → at levels.old e + rate_at self.now.stores a e < 65536 }
+        requires room { (e : ℕ) → e < 64 → at levels.old e + rate_of self.now.stores a e < 65536 }
         ensures { Moved ◌+◌ self.now a levels.old levels.new }
     {
         for m in self.of_actor(a) {
@@ -31,7 +31,7 @@ impl Moves {
 
     // Takes the actor's rate at each of its stores.
     pub fn take(&self, a: usize, levels: &mut [u16; 64])
-        requires has { (e : ℕ) → e < 64 → rate_at self.now.stores a e ≤ at levels.old e }
+        requires has { (e : ℕ) → e < 64 → rate_of self.now.stores a e ≤ at levels.old e }
         ensures { Moved ◌-◌ self.now a levels.old levels.new }
     {
         for m in self.of_actor(a) {
