@@ -43,7 +43,7 @@ fn damage(rt: &(impl Alloc + Print), file: &mut [u8], at: usize) -> anyhow::Resu
 }
 
 fn main(rt: HostRuntime) -> anyhow::Result<()> {
-    // A buffer and its size: a Vec could run out of memory, and this program cannot.
+    // A buffer and its size, as `fill` takes and answers them.
     let mut buffer = [0; ENOUGH];
     let size = fill(&mut rt.stdin(), &mut buffer)?;
     let file = &mut buffer[..size];
