@@ -4,8 +4,8 @@ use Rattle.std.proofs.Common.{sym, ap, subst, ◌∙◌, ⊎_elim, arith}
 use Rattle.std.proofs.lemmas.Bool.{cases_lt, le-leb, lt-leb, and_from, and_left, and_right, cond-true, cond-false}
 use Rattle.policy.specs.declared.pair.Side.{Side}
 use Rattle.policy.specs.declared.pair.Side.TheVariants.{First, Second}
-use Rattle.policy.specs.Meaning.{View, Sound, SameTerms, Served, Cleared, Laid}
-use Rattle.policy.specs.Join.{side, seen, joined, joined_at, PairLays}
+use Rattle.policy.specs.Meaning.{View, Sound, SameTerms, Served, Cleared, Laid, ShowsAt}
+use Rattle.policy.specs.Join.{side, seen, joined, joined_at, PairMade, PairLays}
 
 module _ (n m a : ℕ) where
   side_before : a < n → side n m a ≡ First a
@@ -116,6 +116,36 @@ joined_second v w w' a h few l =
       given = ap (λ (d : Side). seen d v.left w'.left) here ∙ l.given ∙ sym (ap (λ (d : Side). seen d v.work w.work) here);
       others = λ b o. by_side n m b (λ d. seen d v.left w'.left ≡ seen d v.left w.left) (λ _. refl) (λ _. refl) (λ i _. l.others (b - n) (λ e. o (omega arith)));
       no_later = λ b o. by_side n m b (λ d. seen d v.due w'.due ≤ seen d v.due w.due) (λ _. omega arith) (λ _. omega arith) (λ i _. l.no_later (b - n) (λ e. o (omega arith)));
+    }
+
+module _ (v w : View) where
+  shown_first : (a : ℕ) → side v.number w.number a ≡ First a → ShowsAt v a (joined v w) a
+  shown_first a e = record {
+    work = ap (λ (d : Side). seen d v.work w.work) e;
+    promise = ap (λ (d : Side). seen d v.promise w.promise) e;
+    left = ap (λ (d : Side). seen d v.left w.left) e;
+    due = ap (λ (d : Side). seen d v.due w.due) e;
+  }
+
+  shown_second : (b a : ℕ) → side v.number w.number a ≡ Second b → ShowsAt w b (joined v w) a
+  shown_second b a e = record {
+    work = ap (λ (d : Side). seen d v.work w.work) e;
+    promise = ap (λ (d : Side). seen d v.promise w.promise) e;
+    left = ap (λ (d : Side). seen d v.left w.left) e;
+    due = ap (λ (d : Side). seen d v.due w.due) e;
+  }
+
+pub joined_made : (v w : View) → PairMade v w (joined v w)
+joined_made v w =
+    let n = v.number in
+    let m = w.number in
+    record {
+      taken = λ few. record {
+        number = cond-true _ _ _ (le-leb (n + m) 16 few);
+        first = λ a h. shown_first v w a (side_before n m a h);
+        second = λ b. let e : (n + b) - n ≡ b = omega arith in shown_second v w b (n + b) (side_after n m (n + b) (omega arith) few ∙ ap Second e);
+      };
+      refused = λ crowd. record { number = cond-false _ _ _ (lt-leb (n + m) 16 crowd); each = λ a. shown_first v w a (side_crowd n m a crowd) };
     }
 
 module _ {X Y : Type 0} (v : X → View) (w : Y → View) (f : X → ℕ → X → Type 0) (g : Y → ℕ → Y → Type 0)
