@@ -1,5 +1,5 @@
 -- The story of a list of calls, as far as it has been made. Assumes nothing.
-use Rattle.std.proofs.Common.{◌≡◌, ℕ, ◌+◌, ◌<◌, ◌≤◌, ◌≢◌, List, [], length, get_or, set, Some, None, Ok, Err, Option, Result, sym, ap, ◌∙◌, subst, inl, inr, add-one, arith, get_or-set_other, get_or-set_same}
+use Rattle.std.proofs.Common.{◌≡◌, ℕ, ◌+◌, ◌<◌, ◌≤◌, List, [], length, get_or, set, Some, None, Ok, Err, Option, Result, sym, ap, ◌∙◌, subst, inl, inr, add-one, arith, get_or-set_other, get_or-set_same}
 use Rattle.std.proofs.lemmas.Bool.{cases_eq}
 use Rattle.policy.specs.declared.meaning.Policy.{Ghosts}
 use Rattle.graph.specs.declared.graph.Graph.{Graph}
@@ -30,12 +30,6 @@ same_answers : {X : Type 0} (m : Ghosts X) (n : Net) (time : ℕ → ℕ) (p : X
 same_answers m n time p call r r' e (joined z b kept) = joined z b kept
 same_answers m n time p call r r' e (called k h h' b z s d kept) =
     called k h h' b z (same_answers m n time p call r r' (λ j lt. e j (omega arith)) s) (subst (λ (x : Result Answer Fault). Does m n time b h (call k) x z h') (e k (omega arith)) d) kept
-
-set_same : (xs : List (Result Answer Fault)) (i : ℕ) (x : Result Answer Fault) → i < length xs → get_or (set xs i x) i (Ok Restarted) ≡ x
-set_same xs i x lt = rw get_or-set_same
-
-pub set_other : (xs : List (Result Answer Fault)) (i k : ℕ) (x : Result Answer Fault) → k ≢ i → get_or (set xs i x) k (Ok Restarted) ≡ get_or xs k (Ok Restarted)
-set_other xs i k x ne = rw get_or-set_other
 
 -- over a graph, with its times, of a bench that is joined with p
 module _ {X : Type 0} (m : Ghosts X) (means : Means m) (g : Graph) (p : X) where
@@ -68,13 +62,13 @@ module _ {X : Type 0} (m : Ghosts X) (means : Means m) (g : Graph) (p : X) where
         let h' = (f h).0 in
         let k = does_in_step h b s.2 (f h).1 in
         let before = same_answers m n time p (λ j. get_or calls j Tick) (λ j. get_or answers j (Ok Restarted)) (λ j. get_or (set answers i r) j (Ok Restarted))
-        (λ j lt. sym (set_other answers i j r (omega arith))) s.1 in
-        rw add-one (h', called i h h' b z before (subst (λ (x : Result Answer Fault). Does m n time b h (get_or calls i Tick) x z h') (sym (set_same answers i r lt)) (f h).1) k.kept, k)
+        (λ j lt. sym (get_or-set_other answers i j r (Ok Restarted) (omega arith))) s.1 in
+        rw add-one (h', called i h h' b z before (subst (λ (x : Result Answer Fault). Does m n time b h (get_or calls i Tick) x z h') (sym (get_or-set_same answers i r (Ok Restarted) lt)) (f h).1) k.kept, k)
     story_goes_on (Some a) answers i b z r lt s f = (
       subst (λ (x : Stand X). Begins m n time p x) (sym f.1) s.0,
       λ j lj. elim (cases_eq j i) [
-        | inl same ↦ subst (λ (x : ℕ). get_or (set answers i r) x (Ok Restarted) ≡ Err (Works a)) (sym same) (set_same answers i r lt ∙ f.0)
-        | inr ne ↦ set_other answers i j r ne ∙ s.1 j (omega arith)
+        | inl same ↦ subst (λ (x : ℕ). get_or (set answers i r) x (Ok Restarted) ≡ Err (Works a)) (sym same) (get_or-set_same answers i r (Ok Restarted) lt ∙ f.0)
+        | inr ne ↦ get_or-set_other answers i j r (Ok Restarted) ne ∙ s.1 j (omega arith)
       ],
     )
 

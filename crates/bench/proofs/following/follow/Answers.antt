@@ -1,12 +1,13 @@
-use Rattle.std.proofs.Common.{◌≡◌, ℕ, min, length, refl, ◌∙◌, subst, length-take, arith}
+use Rattle.std.proofs.Common.{◌≡◌, ℕ, min, length, Ok, refl, ◌∙◌, subst, get_or-set_other, length-take, arith}
 use Rattle.std.proofs.lemmas.List.{get_or-take}
 use Rattle.runs.specs.Seen.{net, times_of}
 use Rattle.bench.specs.declared.call.Call.{Call}
 use Rattle.bench.specs.declared.call.Call.TheVariants.{Tick}
+use Rattle.bench.specs.declared.call.Answer.TheVariants.{Restarted}
 use Rattle.bench.specs.Story.{Followed}
 use Rattle.bench.specs.Calls.{look}
 use Rattle.bench.proofs.Shared.{Means}
-use Rattle.bench.proofs.Stories.{story_begins, story_goes_on, story_ends, set_other}
+use Rattle.bench.proofs.Stories.{story_begins, story_goes_on, story_ends}
 use Rattle.bench.proofs.following.follow.Given.{Over}
 use Rattle.bench.proofs.following.follow.Goals as goal
 
@@ -36,7 +37,7 @@ loop-i-preserved g c =
       refused = c.perform.ensures.same.1 ∙ was.refused;
       so_far = story_goes_on g.P.Policy (means g) c.args.graph.now c.args.policy calls c.join-bench.result.refused answers i (look c.loop-i.bench) (look c.perform.new.self) r
           (omega (arith, c.min-made.ensures, length-take {A = Call})) was.so_far performed;
-      rest = λ j h. set_other answers i j r (omega arith) ∙ was.rest j (omega arith);
+      rest = λ j h. get_or-set_other answers i j r (Ok Restarted) (omega arith) ∙ was.rest j (omega arith);
     }
 
 pub returns : goal.returns
