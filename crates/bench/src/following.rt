@@ -18,6 +18,7 @@ impl<'g, P: Policy> Bench<'g, P> {
         ensures value { PerformIs P.Policy (net (graph_of self.old)) (times_of (graph_of self.old)) self.old.refused (look self.old) call result (look self.new) }
         ensures same { (graph_of self.new ≡ graph_of self.old) × (self.new.refused ≡ self.old.refused) }
     {
+        // By a match: calls come as values, of which the promise tells, and not as closures.
         match call {
             Call::Tick => self.tick().map(|(tick, ended)| Answer::Ticked(tick, ended)),
             Call::Count(a) => self.count(a).map(Answer::Counted),
@@ -45,6 +46,7 @@ pub fn follow<'g, P: Policy>(
     let made = calls.len().min(answers.len());
     // By index: of slots that are lent one by one a proof knows only how many they are.
     for (i, call) in calls[..made].iter().enumerate() {
+        // By index: of an answer that an iterator lends a proof knows nothing once it is written.
         answers[i] = bench.perform(*call);
     }
     Report {

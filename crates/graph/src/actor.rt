@@ -21,6 +21,7 @@ impl Record for NameRow {
 
     ghost stamped = { λ a. a.field };
 
+    // By hand: the names count, and not the field.
     fn same(&self, other: &NameRow) -> bool {
         self.name == other.name
     }

@@ -25,6 +25,7 @@ pub enum Fault {
     Unbalanced,
 }
 
+// By hand: a derived From would not say which fault it makes.
 impl From<fields::Fault> for Fault {
     ghost from_gives = { λ e r. r ≡ Fields e };
 

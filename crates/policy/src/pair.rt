@@ -13,7 +13,7 @@ pub struct Pair<A: Policy, B: Policy> {
     second: B,
 }
 
-// Which of the two has an actor, and its number there.
+// Which of the two has an actor, and its number there. No `Result`: neither is a failure.
 #[derive(Clone, Copy)]
 enum Side {
     First(u8),

@@ -55,6 +55,7 @@ impl Rows {
         if works.is_empty() || works.len() > 16 {
             return Err(Fault::Limits(0));
         }
+        // By a match, as in a slice's check: what is found is the refusal, and `ok_or` makes one of what is not.
         match works.iter().position(|work| !(1..=4095).contains(work)) {
             Some(actor) => Err(Fault::Limits(actor as u8)),
             None => Ok(()),

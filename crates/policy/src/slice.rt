@@ -80,19 +80,15 @@ impl<P: Policy> Slice<P> {
         ensures made { SliceMade (P.Policy.view below) period slots result.period result.slots }
         ensures plain { Alike (turning (P.Policy.view below) result.period result.slots 0) (sliced (P.Policy.view below) result.period result.slots 0) }
     {
-        match Self::check(&below, period, slots) {
-            Ok(_) => Slice {
-                below,
-                period,
-                slots,
-                wheel: 0,
-            },
-            Err(_) => Slice {
-                below,
-                period: 1,
-                slots: 1,
-                wheel: 0,
-            },
+        let (period, slots) = match Self::check(&below, period, slots) {
+            Ok(()) => (period, slots),
+            Err(_) => (1, 1),
+        };
+        Slice {
+            below,
+            period,
+            slots,
+            wheel: 0,
         }
     }
 }

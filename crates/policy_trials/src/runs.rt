@@ -10,9 +10,10 @@ pub fn lay_all<P: Policy>(p: &mut P) {
 pub fn traced<P: Policy>(p: &mut P, a: u8) -> [u16; 16] {
     let mut seen = [0; 16];
     lay_all(p);
-    for t in 0..8 {
-        seen[t] = p.left(a);
-        seen[8 + t] = p.due(a);
+    let (lefts, dues) = seen.split_at_mut(8);
+    for (left, due) in lefts.iter_mut().zip(dues) {
+        *left = p.left(a);
+        *due = p.due(a);
         p.serve();
     }
     seen

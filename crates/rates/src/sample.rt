@@ -42,6 +42,7 @@ impl Record for Sample {
 
     ghost stamped = { λ a. a.tick };
 
+    // By hand: all numbers count, and not the tick.
     fn same(&self, other: &Sample) -> bool {
         self.tokens == other.tokens && self.left == other.left
     }

@@ -1,7 +1,8 @@
 ghost use Rattle.std.specs.Prelude.{◌≡◌, ◌&&◌, ◌==◌, nat_lt};
 ghost use Rattle.runs.specs.Firings.{left_of, after};
 
-// What an actor is doing: nothing, or a firing that has so many ticks to go.
+// What an actor is doing: nothing, or a firing that has so many ticks to go. A state of its own and no `Option`: it is
+// what an event changes, by a match on both.
 #[derive(Clone, Copy)]
 pub enum Firing {
     Idle,

@@ -14,6 +14,7 @@ impl Record for Sight {
 
     ghost stamped = { λ a. a.when };
 
+    // By hand: what was seen counts, and not when.
     fn same(&self, other: &Sight) -> bool {
         self.what == other.what
     }
