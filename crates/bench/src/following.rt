@@ -46,7 +46,6 @@ pub fn follow<'g, P: Policy>(
     let made = calls.len().min(answers.len());
     // By index: of slots that are lent one by one a proof knows only how many they are.
     for (i, call) in calls[..made].iter().enumerate() {
-        // By index: of an answer that an iterator lends a proof knows nothing once it is written.
         answers[i] = bench.perform(*call);
     }
     Report {
