@@ -17,7 +17,7 @@ use runs::{Run, times};
 fn accepted(refused: Option<u8>) -> Result<(), Fault>
     ensures { MatchOption refused (result ≡ Ok tt) (λ a. result ≡ Err (Fault.Works a)) }
 {
-    // By a match: what is there is the refusal, and `ok_or` makes one of what is not.
+    // By a match: what is there is the refusal, which `ok_or` takes for the answer, and `map_or` would tell last.
     match refused {
         None => Ok(()),
         Some(a) => Err(Fault::Works(a)),

@@ -10,7 +10,7 @@ use policy::Policy;
 use runs::Run;
 use std::array;
 
-// Over policy and run apart: a method of the bench would have to promise that the rest of it stays.
+// Over policy and run apart, and no methods of a bench: a join does tick 0 before there is one.
 
 // The ticks left that the policy has of an actor, if a firing of it is under way.
 fn taken_by<P: Policy>(a: usize, policy: &P, run: &Run<'_>) -> u16

@@ -16,7 +16,7 @@ pub struct Graph {
     pub(crate) channels: [Channel; 32],
     pub(crate) n: usize,
     pub(crate) m: usize,
-    // how often each actor fires in one iteration of the graph
+    // how often each actor fires in one iteration of the graph; beside the actors, since it is given out as numbers
     pub(crate) counts: [u16; 16],
     ghost few: { (1 ≤ n) × (n ≤ 16) × (m ≤ 32) },
     ghost full: { (length actors ≡ 16) × (length channels ≡ 32) × (length counts ≡ 16) },

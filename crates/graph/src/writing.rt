@@ -21,48 +21,52 @@ trait Part {
         ensures lender { writer.new.buffer.ghost_name ≡ writer.old.buffer.ghost_name };
 }
 
-// The value of an actor's field. A name says more here than `From`: bytes of a file, and not of an actor at large.
-fn actor_value(actor: &Actor) -> [u8; 10]
-    ensures { result ≡ actor_value actor.now }
-{
-    let Actor { name, time } = *actor;
-    let mut value = [0; 10];
-    value[..8].copy_from_slice(&name);
-    value[8..].copy_from_slice(&time.to_be_bytes());
-    value
+// The value of an actor's field.
+impl From<&Actor> for [u8; 10] {
+    ghost from_gives = { λ actor value. value ≡ actor_value actor.now };
+
+    fn from(actor: &Actor) -> [u8; 10] {
+        let Actor { name, time } = *actor;
+        let mut value = [0; 10];
+        value[..8].copy_from_slice(&name);
+        value[8..].copy_from_slice(&time.to_be_bytes());
+        value
+    }
 }
 
 // The value of a channel's field.
-fn channel_value(channel: &Channel) -> [u8; 8]
-    ensures { result ≡ channel_value channel.now }
-{
-    let Channel {
-        source,
-        dest,
-        p,
-        q,
-        capacity,
-        tokens,
-    } = *channel;
-    let [capacity_high, capacity_low] = capacity.to_be_bytes();
-    let [tokens_high, tokens_low] = tokens.to_be_bytes();
-    [
-        source,
-        dest,
-        p,
-        q,
-        capacity_high,
-        capacity_low,
-        tokens_high,
-        tokens_low,
-    ]
+impl From<&Channel> for [u8; 8] {
+    ghost from_gives = { λ channel value. value ≡ channel_value channel.now };
+
+    fn from(channel: &Channel) -> [u8; 8] {
+        let Channel {
+            source,
+            dest,
+            p,
+            q,
+            capacity,
+            tokens,
+        } = *channel;
+        let [capacity_high, capacity_low] = capacity.to_be_bytes();
+        let [tokens_high, tokens_low] = tokens.to_be_bytes();
+        [
+            source,
+            dest,
+            p,
+            q,
+            capacity_high,
+            capacity_low,
+            tokens_high,
+            tokens_low,
+        ]
+    }
 }
 
 impl Part for Actor {
     ghost bytes = { actor_bytes };
 
     fn put(&self, writer: &mut Writer<'_>) -> Result<(), fields::Fault> {
-        Field::Actor(&actor_value(self)).write(writer)
+        Field::Actor(&self.into()).write(writer)
     }
 }
 
@@ -70,7 +74,7 @@ impl Part for Channel {
     ghost bytes = { channel_bytes };
 
     fn put(&self, writer: &mut Writer<'_>) -> Result<(), fields::Fault> {
-        Field::Channel(&channel_value(self)).write(writer)
+        Field::Channel(&self.into()).write(writer)
     }
 }
 

@@ -49,6 +49,7 @@ fn moves(channels: &[Channel], end: End) -> Moves
 {
     let mut stores = [Store::NOBODYS; 64];
     let far = end.other();
+    // By number: a channel is two stores, 32 apart.
     for (c, channel) in channels.iter().enumerate() {
         stores[c] = end.store(channel);
         stores[32 + c] = far.store(channel);

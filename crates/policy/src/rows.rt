@@ -29,7 +29,7 @@ fn total(rows: &[Row]) -> u16
     rows.iter().map(|row| row.work).sum()
 }
 
-// One tick for each.
+// One tick for each. Not one loop with the next: a closure that changes a row would need both their clauses.
 fn serve(rows: &mut [Row])
     ensures { rows.new ≡ map worn rows.old }
 {
@@ -55,7 +55,7 @@ impl Rows {
         if works.is_empty() || works.len() > 16 {
             return Err(Fault::Limits(0));
         }
-        // By a match, as in a slice's check: what is found is the refusal, and `ok_or` makes one of what is not.
+        // By a match: what is found is the refusal, which `ok_or` takes for the answer, and `map_or` would tell last.
         match works.iter().position(|work| !(1..=4095).contains(work)) {
             Some(actor) => Err(Fault::Limits(actor as u8)),
             None => Ok(()),

@@ -68,6 +68,7 @@ impl<P: Policy> Slice<P> {
         let too_long = |a: &u8|
             requires { (0 < slots) × (slots ≤ period) }
         { widened(period, slots, below.promise(*a)) > 65535 };
+        // By a match: what is found is the refusal, which `ok_or` takes for the answer, and `map_or` would tell last.
         match (0..below.number()).find(too_long) {
             Some(a) => Err(Fault::Promise(a)),
             None => Ok(()),
@@ -80,9 +81,10 @@ impl<P: Policy> Slice<P> {
         ensures made { SliceMade (P.Policy.view below) period slots result.period result.slots }
         ensures plain { Alike (turning (P.Policy.view below) result.period result.slots 0) (sliced (P.Policy.view below) result.period result.slots 0) }
     {
-        let (period, slots) = match Self::check(&below, period, slots) {
-            Ok(()) => (period, slots),
-            Err(_) => (1, 1),
+        let (period, slots) = if Self::check(&below, period, slots).is_ok() {
+            (period, slots)
+        } else {
+            (1, 1)
         };
         Slice {
             below,

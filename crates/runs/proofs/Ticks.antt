@@ -40,13 +40,13 @@ module _ (gr : Graph) where
       places = λ c hc t. has_places g s c hc (sym (h.are (g.source c) (fit.sound.source_in c hc)) ∙ t);
     }
 
-    module _ (times : List ℕ) (z w : State) (t : Taken g.channels (channels_in gr) go s z) (b : Begun 16 times go z w) where
+    module _ (times : List ℕ) (z w : State) (t : Taken g.channels (channels_in gr) go s z) (b : Begun g.actors times go z w) where
       pub starts : Matches g w (start g (at times) s)
       starts = record {
         alike = record {
           tokens = λ c hc. ap (λ f. f c) b.tokens ∙ t.tokens_are c hc ∙ ap (λ x. s.tokens c - when x (g.q c)) (h.are (g.dest c) (fit.sound.dest_in c hc));
           free = λ c hc. ap (λ f. f c) b.free ∙ t.free_are c hc ∙ ap (λ x. s.free c - when x (g.p c)) (h.are (g.source c) (fit.sound.source_in c hc));
-          left = λ a ha. b.left_are a (omega (arith, fit.few)) ∙ ap₂ (λ x f. cond x (at times a) (f a)) (h.are a ha) t.left;
+          left = λ a ha. b.left_are a ha ∙ ap₂ (λ x f. cond x (at times a) (f a)) (h.are a ha) t.left;
         };
         ended = λ a ha. b.ended a ∙ ap (λ f. f a) t.ended;
       }
@@ -57,48 +57,33 @@ module _ (gr : Graph) where
       pub starts_vacant : Vacant g s → Vacant g w
       starts_vacant v = (
         λ c hc. (ap (λ f. f c) b.tokens ∙ t.tokens_stay c hc ∙ (v.0 c hc).0, ap (λ f. f c) b.free ∙ t.free_stay c hc ∙ (v.0 c hc).1),
-        λ a ha. (
-          ⊎_elim (λ lt. b.left_are a lt ∙ ap₂ (λ x f. cond x (at times a) (f a)) (h.absent a ha) t.left) (λ ge. b.left_stay a ge ∙ ap (λ f. f a) t.left) (cases_lt a 16) ∙ (v.1 a ha).0,
-          b.ended a ∙ ap (λ f. f a) t.ended ∙ (v.1 a ha).1,
-        ),
+        λ a ha. (b.left_stay a ha ∙ ap (λ f. f a) t.left ∙ (v.1 a ha).0, b.ended a ∙ ap (λ f. f a) t.ended ∙ (v.1 a ha).1),
       )
 
   -- firings end
-  module _ (left : List ℕ) (s z w : State) (done : List Bool) (f : Served 16 left s z done) (v : Given g.channels (channels_in gr) done z w) where
-    few : (a : ℕ) → a < g.actors → a < 16
-    few a ha = omega (arith, fit.few)
-
+  module _ (left : List ℕ) (s z w : State) (done : List Bool) (f : Served g.actors left s z done) (v : Given g.channels (channels_in gr) done z w) where
     pub finish_ends : (a : ℕ) → a < g.actors → flag done a ≡ ends s (taken s (at left)) a
-    finish_ends a ha = f.done_are a (few a ha)
+    finish_ends a ha = f.done_are a ha
 
     pub finishes : Matches g w (finish g (taken s (at left)) s)
     finishes = record {
       alike = record {
         tokens = λ c hc. v.tokens_are c hc ∙ ap₂ (λ t b. t c + when b (g.p c)) f.tokens (finish_ends (g.source c) (fit.sound.source_in c hc));
         free = λ c hc. v.free_are c hc ∙ ap₂ (λ t b. t c + when b (g.q c)) f.free (finish_ends (g.dest c) (fit.sound.dest_in c hc));
-        left = λ a ha. ap (λ t. t a) v.left ∙ f.left_are a (few a ha);
+        left = λ a ha. ap (λ t. t a) v.left ∙ f.left_are a ha;
       };
-      ended = λ a ha. ap (λ t. t a) v.ended ∙ f.ended_are a (few a ha);
+      ended = λ a ha. ap (λ t. t a) v.ended ∙ f.ended_are a ha;
     }
 
     pub finishes_counts : (a : ℕ) → w.ended a ≤ s.ended a + 1
     finishes_counts a =
         ⊎_elim (λ lt. omega (arith, ap (λ t. t a) v.ended, f.ended_are a lt, at_most_one (ends s (taken s (at left)) a)))
-        (λ ge. omega (arith, ap (λ t. t a) v.ended, f.ended_stay a ge)) (cases_lt a 16)
-
-    idle_left : (a l : ℕ) → s.left a ≡ 0 → cond (busy s a) l 0 ≡ 0
-    idle_left a l e = grind (arith, nat_tests)
-
-    idle_ends : (a l : ℕ) → s.left a ≡ 0 → when (busy s a && eqb (cond (busy s a) l 0) 0) 1 ≡ 0
-    idle_ends a l e = grind (arith, nat_tests)
+        (λ ge. omega (arith, ap (λ t. t a) v.ended, f.ended_stay a ge)) (cases_lt a g.actors)
 
     pub finishes_vacant : Vacant g s → Vacant g w
     finishes_vacant e = (
       λ c hc. (v.tokens_stay c hc ∙ ap (λ t. t c) f.tokens ∙ (e.0 c hc).0, v.free_stay c hc ∙ ap (λ t. t c) f.free ∙ (e.0 c hc).1),
-      λ a ha. let zero = e.1 a ha in (
-        ap (λ t. t a) v.left ∙ ⊎_elim (λ lt. f.left_are a lt ∙ idle_left a (at left a) zero.0) (λ ge. f.left_stay a ge ∙ zero.0) (cases_lt a 16),
-        ap (λ t. t a) v.ended ∙ ⊎_elim (λ lt. f.ended_are a lt ∙ omega (arith, zero.1, idle_ends a (at left a) zero.0)) (λ ge. f.ended_stay a ge ∙ zero.1) (cases_lt a 16),
-      ),
+      λ a ha. (ap (λ t. t a) v.left ∙ f.left_stay a ha ∙ (e.1 a ha).0, ap (λ t. t a) v.ended ∙ f.ended_stay a ha ∙ (e.1 a ha).1),
     )
 
   module _ (time : ℕ → ℕ) where
@@ -117,9 +102,9 @@ module _ (gr : Graph) where
     }
 
   -- with the ticks that fall
-  module _ (left times : List ℕ) (s z : State) (falls : (a : ℕ) → a < 16 → at left a ≡ fallen s a) where
+  module _ (left times : List ℕ) (s z : State) (falls : (a : ℕ) → a < g.actors → at left a ≡ fallen s a) where
     falling : (a : ℕ) → a < g.actors → taken s (at left) a ≡ fallen s a
-    falling a ha = ap (λ l. cond (busy s a) l 0) (falls a (omega (arith, fit.few))) ∙ taken_falls s a
+    falling a ha = ap (λ l. cond (busy s a) l 0) (falls a ha) ∙ taken_falls s a
 
     pub next_ends : (a : ℕ) → a < g.actors → ends s (taken s (at left)) a ≡ ends s (fallen s) a
     next_ends a ha = ap (λ l. busy s a && eqb l 0) (falling a ha)
@@ -130,18 +115,17 @@ module _ (gr : Graph) where
         (record { alike = record { tokens = λ c hc. refl; free = λ c hc. refl; left = λ a ha. refl }; ended = λ a ha. refl }) falling in
         record { alike = alike_trans g _ _ _ h.alike e.alike; ended = λ a ha. h.ended a ha ∙ e.ended a ha }
 
--- nothing is under way where every actor that there is, or that there could be, has no ticks left
+-- nothing is under way where every actor has no ticks left
 idle_not : (l : ℕ) → l ≡ 0 → not (ltb 0 l) ≡ true
 idle_not l e = grind (arith, nat_tests)
 
 not_idle : (l : ℕ) → not (ltb 0 l) ≡ true → l ≡ 0
 not_idle l e = grind (arith, nat_tests)
 
-pub still : (gr : Graph) (s : State) (b : Bool) → Vacant (net gr) s → (IsTrue b ↔ ((a : ℕ) → a < 16 → s.left a ≡ 0)) → b ≡ every (net gr).actors (λ a. not (busy s a))
-still gr s true v h =
-    sym (every_from (net gr).actors _ (λ a lt. idle_not (s.left a) (h.0 refl a (omega (arith, (graph_fitting gr).few)))))
-still gr s false v h =
-    elim (cases_Bool (every (net gr).actors (λ a. not (busy s a)))) [
-      | inl e ↦ absurd (true≢false (sym (h.1 (λ a _. ⊎_elim (λ lt. not_idle (s.left a) (every_true (net gr).actors _ e a lt)) (λ ge. (v.1 a ge).0) (cases_lt a (net gr).actors)))))
+pub still : (n : ℕ) (s : State) (b : Bool) → (IsTrue b ↔ ((a : ℕ) → a < n → s.left a ≡ 0)) → b ≡ every n (λ a. not (busy s a))
+still n s true h = sym (every_from n _ (λ a lt. idle_not (s.left a) (h.0 refl a lt)))
+still n s false h =
+    elim (cases_Bool (every n (λ a. not (busy s a)))) [
+      | inl e ↦ absurd (true≢false (sym (h.1 (λ a lt. not_idle (s.left a) (every_true n _ e a lt)))))
       | inr e ↦ sym e
     ]

@@ -1,8 +1,8 @@
 ghost use Rattle.std.specs.Prelude.{◌≡◌, ◌&&◌, ◌==◌, nat_lt};
 ghost use Rattle.runs.specs.Firings.{left_of, after};
 
-// What an actor is doing: nothing, or a firing that has so many ticks to go. A state of its own and no `Option`: it is
-// what an event changes, by a match on both.
+// What an actor is doing: nothing, or a firing that has so many ticks to go. No `Option`: in the match
+// that an event makes, None would not say idle, nor Some under way.
 #[derive(Clone, Copy)]
 pub enum Firing {
     Idle,

@@ -14,6 +14,7 @@ use graph::Graph;
 #[derive(Clone, Copy)]
 pub struct Run<'g> {
     graph: &'g Graph,
+    // by actor, as whoever makes the run hands them over
     times: [u16; 16],
     standing: Standing,
     // the ticks done since tick 0, or as many as can be told
@@ -82,7 +83,7 @@ impl<'g> Run<'g> {
         ensures done { (a : ℕ) → a < (net self.old.graph.now).actors → flag result a ≡ ends (state self.old) (fallen (state self.old)) a }
         ensures after { Matches (net self.old.graph.now) (state self.new) (next_state (net self.old.graph.now) (at self.old.times) (state self.old)) }
     {
-        let left = self.standing.one_less();
+        let left = self.standing.one_less(self.graph.actors().len());
         self.step(&left)
     }
 
@@ -106,6 +107,14 @@ impl<'g> Run<'g> {
         ensures absent { (net self.now.graph.now).channels ≤ c → result ≡ 0 }
     {
         self.standing.held.get(c).map_or(0, |held| held.tokens)
+    }
+
+    // The free places of a channel.
+    pub fn free(&self, c: usize) -> u16
+        ensures free { result ≡ (state self.now).free c }
+        ensures absent { (net self.now.graph.now).channels ≤ c → result ≡ 0 }
+    {
+        self.standing.held.get(c).map_or(0, |held| held.free)
     }
 
     // The ticks left of an actor's firing.
@@ -132,6 +141,6 @@ impl<'g> Run<'g> {
     pub fn is_still(&self) -> bool
         ensures { result ≡ every (net self.now.graph.now).actors (λ a. not (busy (state self.now) a)) }
     {
-        self.standing.is_still()
+        self.standing.is_still(self.graph.actors().len())
     }
 }

@@ -63,7 +63,8 @@ impl Held {
         }
     }
 
-    // The marked ends of the channel take their tokens and places.
+    // The marked ends of the channel take their tokens and places. Not one with `give`: a difference may not pass 0, a sum has to
+    // fit, and each asks its own of the caller.
     fn take(&mut self, channel: &Channel, go: &[bool; 16])
         requires ends { Ends 16 channel.now }
         requires tokens { flag go.now channel.now.dest ≡ true → channel.now.q ≤ self.old.tokens }
@@ -127,6 +128,8 @@ impl Doing {
     }
 }
 
+// Loops with a number write or read an array beside the one that they go through: while a zip lends an array, no invariant
+// can name it.
 impl Standing {
     // What stands before the starts of tick 0.
     pub fn initial(graph: &Graph) -> Standing
@@ -184,10 +187,11 @@ impl Standing {
     }
 
     // The marked actors have a firing under way.
-    fn begin(&mut self, times: &[u16; 16], go: &[bool; 16])
-        ensures { Begun 16 times.now go.now (state_of self.old) (state_of self.new) }
+    fn begin(&mut self, actors: usize, times: &[u16; 16], go: &[bool; 16])
+        requires { actors ≤ 16 }
+        ensures { Begun actors times.now go.now (state_of self.old) (state_of self.new) }
     {
-        for (a, doing) in self.doing.iter_mut().enumerate() {
+        for (a, doing) in self.doing[..actors].iter_mut().enumerate() {
             if go[a] {
                 doing.start(times[a]);
             }
@@ -203,16 +207,17 @@ impl Standing {
     {
         let go = self.ready(graph);
         self.take(graph, &go);
-        self.begin(times, &go);
+        self.begin(graph.actors().len(), times, &go);
     }
 
     // Each firing under way comes to the new ticks left, and those that come to 0 are counted; marks these.
-    fn serve(&mut self, left: &[u16; 16]) -> [bool; 16]
-        requires { Countable (state_of self.old) }
-        ensures { Served 16 left.now (state_of self.old) (state_of self.new) result }
+    fn serve(&mut self, actors: usize, left: &[u16; 16]) -> [bool; 16]
+        requires few { actors ≤ 16 }
+        requires countable { Countable (state_of self.old) }
+        ensures { Served actors left.now (state_of self.old) (state_of self.new) result }
     {
         let mut done = [false; 16];
-        for (a, doing) in self.doing.iter_mut().enumerate() {
+        for (a, doing) in self.doing[..actors].iter_mut().enumerate() {
             done[a] = doing.serve(left[a]);
         }
         done
@@ -240,24 +245,31 @@ impl Standing {
         ensures within { Within (net graph.now) (state_of self.new) }
         ensures vacant { Vacant (net graph.now) (state_of self.old) → Vacant (net graph.now) (state_of self.new) }
     {
-        let done = self.serve(left);
+        let done = self.serve(graph.actors().len(), left);
         self.give(graph, &done);
         done
     }
 
     // One tick less for each firing under way.
-    pub fn one_less(&self) -> [u16; 16]
+    pub fn one_less(&self, actors: usize) -> [u16; 16]
+        requires { actors ≤ 16 }
         ensures size { length result ≡ 16 }
-        ensures value { (a : ℕ) → a < 16 → at result a ≡ fallen (state_of self.now) a }
+        ensures value { (a : ℕ) → a < actors → at result a ≡ fallen (state_of self.now) a }
     {
-        self.doing
-            .map(|doing| doing.firing.left().saturating_sub(1))
+        let mut left = [0; 16];
+        for (a, doing) in self.doing[..actors].iter().enumerate() {
+            left[a] = doing.firing.left().saturating_sub(1);
+        }
+        left
     }
 
     // Whether nothing is under way.
-    pub fn is_still(&self) -> bool
-        ensures { IsTrue result ↔ ((a : ℕ) → a < 16 → (state_of self.now).left a ≡ 0) }
+    pub fn is_still(&self, actors: usize) -> bool
+        requires { actors ≤ 16 }
+        ensures { IsTrue result ↔ ((a : ℕ) → a < actors → (state_of self.now).left a ≡ 0) }
     {
-        self.doing.iter().all(|doing| doing.firing.left() == 0)
+        self.doing[..actors]
+            .iter()
+            .all(|doing| doing.firing.left() == 0)
     }
 }

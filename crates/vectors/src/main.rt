@@ -7,12 +7,7 @@ ghost use Rattle.std.specs.Prelude.{◌≡◌, ◌<◌, length};
 use report::{ENOUGH, Report, fill};
 
 // What is printed of the file with one of its bytes set to a value.
-fn damaged(
-    rt: &(impl Alloc + Print),
-    file: &mut [u8],
-    at: usize,
-    value: u8,
-) -> anyhow::Result<String>
+fn damaged(rt: &HostRuntime, file: &mut [u8], at: usize, value: u8) -> anyhow::Result<String>
     requires { at < length file.old }
     ensures { length file.new ≡ length file.old }
 {
@@ -22,7 +17,7 @@ fn damaged(
 }
 
 // The reports on the file with one of its bytes set to each value, a line for values in a row of which the same is printed.
-fn damage(rt: &(impl Alloc + Print), file: &mut [u8], at: usize) -> anyhow::Result<()>
+fn damage(rt: &HostRuntime, file: &mut [u8], at: usize) -> anyhow::Result<()>
     requires { at < length file.old }
 {
     let good = file[at];

@@ -1,6 +1,8 @@
+use Rattle.std.proofs.Common.{length}
+use Rattle.graph.specs.Meaning.{actors_in}
 use Rattle.runs.specs.Seen.{state}
 use Rattle.runs.proofs.Ticks.{still}
 use Rattle.runs.proofs.run.Run.is_still.Goals as goal
 
 pub returns : goal.returns
-returns c = let r = c.args.self.now in still r.graph.now (state r) c.is_still.result r.vacant c.is_still.ensures
+returns c = still (length (actors_in c.args.self.now.graph.now)) (state c.args.self.now) c.is_still.result (rw c.actors.ensures at c.is_still.ensures)

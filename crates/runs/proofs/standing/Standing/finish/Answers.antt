@@ -15,11 +15,11 @@ give-requires c i lt =
 
 pub returns-clause-after : goal.returns-clause-after
 returns-clause-after c = finishes c.args.graph.now c.args.left.now (state_of c.args.self.now) (state_of c.serve-done.new.self) (state_of c.give.new.self)
-    c.serve-done.result c.serve-done.ensures c.give.ensures
+    c.serve-done.result (rw c.actors.ensures at c.serve-done.ensures) c.give.ensures
 
 pub returns-clause-counts : goal.returns-clause-counts
 returns-clause-counts c = finishes_counts c.args.graph.now c.args.left.now (state_of c.args.self.now) (state_of c.serve-done.new.self) (state_of c.give.new.self)
-    c.serve-done.result c.serve-done.ensures c.give.ensures
+    c.serve-done.result (rw c.actors.ensures at c.serve-done.ensures) c.give.ensures
 
 pub returns-clause-within : goal.returns-clause-within
 returns-clause-within c =
@@ -27,8 +27,8 @@ returns-clause-within c =
     let s = state_of c.args.self.now in
     let z = state_of c.give.new.self in
     finishes_within (net g) (graph_fitting g).sound s z (at c.args.left.now)
-    (finishes g c.args.left.now s (state_of c.serve-done.new.self) z c.serve-done.result c.serve-done.ensures c.give.ensures).alike c.requires.within
+    (finishes g c.args.left.now s (state_of c.serve-done.new.self) z c.serve-done.result (rw c.actors.ensures at c.serve-done.ensures) c.give.ensures).alike c.requires.within
 
 pub returns-clause-vacant : goal.returns-clause-vacant
 returns-clause-vacant c = finishes_vacant c.args.graph.now c.args.left.now (state_of c.args.self.now) (state_of c.serve-done.new.self) (state_of c.give.new.self)
-    c.serve-done.result c.serve-done.ensures c.give.ensures
+    c.serve-done.result (rw c.actors.ensures at c.serve-done.ensures) c.give.ensures

@@ -1,7 +1,8 @@
-use Rattle.std.proofs.Common.{◌≡◌, length}
+use Rattle.std.proofs.Common.{◌≡◌, ◌++◌, length, drop}
 use Rattle.runs.specs.Loops.{Served}
 use Rattle.runs.specs.Standings.{state_of}
 use Rattle.runs.proofs.standing.Standing.serve.Given as goal
 
 abbrev pub invariant-loop-a : goal.invariant-loop-a
-invariant-loop-a l = (length l.doing-items ≡ 16) × Served l.a l.left (state_of l.fn.self) (state_of (record l.fn.self { doing = l.doing-items })) l.done
+invariant-loop-a l =
+    (length l.doing-items ≡ l.actors) × Served l.a l.left (state_of l.fn.self) (state_of (record l.fn.self { doing = l.doing-items ++ drop l.actors l.fn.self.doing })) l.done

@@ -10,11 +10,11 @@ take-requires c = takes c.args.graph.now (state_of c.args.self.now) c.ready-go.r
 
 pub returns-clause-after : goal.returns-clause-after
 returns-clause-after c = starts c.args.graph.now (state_of c.args.self.now) c.ready-go.result c.ready-go.ensures
-    c.args.times.now (state_of c.take.new.self) (state_of c.begin.new.self) c.take.ensures c.begin.ensures
+    c.args.times.now (state_of c.take.new.self) (state_of c.begin.new.self) c.take.ensures (rw c.actors.ensures at c.begin.ensures)
 
 pub returns-clause-counts : goal.returns-clause-counts
 returns-clause-counts c = starts_counts c.args.graph.now (state_of c.args.self.now) c.ready-go.result c.ready-go.ensures
-    c.args.times.now (state_of c.take.new.self) (state_of c.begin.new.self) c.take.ensures c.begin.ensures
+    c.args.times.now (state_of c.take.new.self) (state_of c.begin.new.self) c.take.ensures (rw c.actors.ensures at c.begin.ensures)
 
 pub returns-clause-within : goal.returns-clause-within
 returns-clause-within c =
@@ -22,8 +22,8 @@ returns-clause-within c =
     let s = state_of c.args.self.now in
     let z = state_of c.begin.new.self in
     starts_within (net g) (graph_fitting g).sound (at c.args.times.now) s z
-    (starts g s c.ready-go.result c.ready-go.ensures c.args.times.now (state_of c.take.new.self) z c.take.ensures c.begin.ensures).alike
+    (starts g s c.ready-go.result c.ready-go.ensures c.args.times.now (state_of c.take.new.self) z c.take.ensures (rw c.actors.ensures at c.begin.ensures)).alike
 
 pub returns-clause-vacant : goal.returns-clause-vacant
 returns-clause-vacant c = starts_vacant c.args.graph.now (state_of c.args.self.now) c.ready-go.result c.ready-go.ensures
-    c.args.times.now (state_of c.take.new.self) (state_of c.begin.new.self) c.take.ensures c.begin.ensures
+    c.args.times.now (state_of c.take.new.self) (state_of c.begin.new.self) c.take.ensures (rw c.actors.ensures at c.begin.ensures)

@@ -1,6 +1,6 @@
 use Rattle.std.proofs.Common.{◌≡◌, ◌/◌, ◌%◌, [], ◌∷◌, arith}
 use Rattle.std.proofs.lemmas.List.{take_at, drop_at}
-use Rattle.graph.proofs.writing.actor_value.Goals as goal
+use Rattle.graph.proofs.writing.ArrayU810FromRefActor.from.Goals as goal
 
 pub returns : goal.returns
 returns c =
