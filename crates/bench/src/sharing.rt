@@ -27,7 +27,6 @@ fn taken_by<P: Policy>(a: usize, policy: &P, run: &Run<'_>) -> u16
 // Serves the policy once; the ticks left that it then has, of the firings under way.
 fn serve_and_take<P: Policy>(policy: &mut P, run: &Run<'_>) -> [u16; 16]
     ensures serves { P.Policy.ticks policy.old policy.new }
-    ensures size { length result ≡ 16 }
     ensures value { (a : ℕ) → a < 16 → at result a ≡ taken (state run.now) (P.Policy.view policy.new).left a }
 {
     policy.serve();

@@ -63,7 +63,6 @@ impl<'g> Run<'g> {
         ensures graph { self.new.graph ≡ self.old.graph }
         ensures times { self.new.times ≡ self.old.times }
         ensures tick { self.old.tick < 4294967295 → self.new.tick ≡ self.old.tick + 1 }
-        ensures size { length result ≡ 16 }
         ensures done { (a : ℕ) → a < (net self.old.graph.now).actors → flag result a ≡ ends (state self.old) (taken (state self.old) (at left.now)) a }
         ensures after { Matches (net self.old.graph.now) (state self.new) (tick_state (net self.old.graph.now) (at self.old.times) (taken (state self.old) (at left.now)) (state self.old)) }
     {
@@ -79,7 +78,6 @@ impl<'g> Run<'g> {
         ensures graph { self.new.graph ≡ self.old.graph }
         ensures times { self.new.times ≡ self.old.times }
         ensures tick { self.old.tick < 4294967295 → self.new.tick ≡ self.old.tick + 1 }
-        ensures size { length result ≡ 16 }
         ensures done { (a : ℕ) → a < (net self.old.graph.now).actors → flag result a ≡ ends (state self.old) (fallen (state self.old)) a }
         ensures after { Matches (net self.old.graph.now) (state self.new) (next_state (net self.old.graph.now) (at self.old.times) (state self.old)) }
     {

@@ -52,7 +52,7 @@ impl Held {
 
     // Strikes out the ends of the channel that its tokens and free places hinder.
     fn withhold(self, channel: &Channel, go: &mut [bool; 16])
-        requires { (Ends 16 channel.now) × (length go.old ≡ 16) }
+        requires { Ends 16 channel.now }
         ensures { Withheld channel.now self.tokens self.free go.old go.new }
     {
         if self.tokens < u16::from(channel.q) {
@@ -152,7 +152,6 @@ impl Standing {
     // Marks the actors that are idle.
     fn idle(&self, actors: usize) -> [bool; 16]
         requires { actors ≤ 16 }
-        ensures size { length result ≡ 16 }
         ensures are { (a : ℕ) → a < actors → flag result a ≡ not (busy (state_of self.now) a) }
         ensures absent { (a : ℕ) → actors ≤ a → flag result a ≡ false }
     {
@@ -238,7 +237,6 @@ impl Standing {
     pub fn finish(&mut self, graph: &Graph, left: &[u16; 16]) -> [bool; 16]
         requires within { Within (net graph.now) (state_of self.old) }
         requires countable { Countable (state_of self.old) }
-        ensures size { length result ≡ 16 }
         ensures done { (a : ℕ) → a < (net graph.now).actors → flag result a ≡ ends (state_of self.old) (taken (state_of self.old) (at left.now)) a }
         ensures after { Matches (net graph.now) (state_of self.new) (finished (net graph.now) (taken (state_of self.old) (at left.now)) (state_of self.old)) }
         ensures counts { (a : ℕ) → (state_of self.new).ended a ≤ (state_of self.old).ended a + 1 }
@@ -253,7 +251,6 @@ impl Standing {
     // One tick less for each firing under way.
     pub fn one_less(&self, actors: usize) -> [u16; 16]
         requires { actors ≤ 16 }
-        ensures size { length result ≡ 16 }
         ensures value { (a : ℕ) → a < actors → at result a ≡ fallen (state_of self.now) a }
     {
         let mut left = [0; 16];

@@ -20,7 +20,7 @@ returns-clause-ticks g c =
     let size : length c.actors.result.now ≡ length (actors_in gr) = ap length (c.actors.ensures ∙ ap (λ x. actors_in x.now) (c.graph.ensures ∙ e.graph)) in
     step_done g.P.Policy gr (at run.times) c.requires.timed left.new.policy (at left.result) (state run) (state z) (λ a ha. left.ensures.value a (omega arith)) e.after
     c.args.policy.now c.lay_begun.new.policy run.tick z.tick c.marked.result done left.ensures.serves next e.done (rw e.graph at c.lay_begun.ensures)
-    (c.marked.ensures ∙ many_marked done (length c.actors.result.now) (omega (arith, e.size)) ∙ ap (many (flag done)) size)
+    (c.marked.ensures ∙ many_marked done (length c.actors.result.now) (omega (arith, c.step-done.type_inv)) ∙ ap (many (flag done)) size)
 
 pub returns-clause-whole : goal.returns-clause-whole
 returns-clause-whole g c =
