@@ -44,7 +44,7 @@ pub fn follow<'g, P: Policy>(
     let promised = promised_rate(graph, &policy, held_rows);
     let mut bench = Bench::join(graph, policy);
     let made = calls.len().min(answers.len());
-    // By index: while a zip lends the answers, no invariant can name them.
+    // By index: while a zip lends the answers to be written, no invariant can name them.
     for (i, call) in calls[..made].iter().enumerate() {
         answers[i] = bench.perform(*call);
     }

@@ -10,7 +10,8 @@ use policy::Policy;
 use runs::Run;
 use std::array;
 
-// Over policy and run apart, and no methods of a bench: a join does tick 0 before there is one.
+// Over policy and run apart: a bench has both, a join does tick 0 before there is a bench, and a struct of the two alone would
+// stand in it for nothing else.
 
 // The ticks left that the policy has of an actor, if a firing of it is under way.
 fn taken_by<P: Policy>(a: usize, policy: &P, run: &Run<'_>) -> u16

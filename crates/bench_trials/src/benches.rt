@@ -3,6 +3,7 @@ use bench::{Bench, Fault};
 use policy::{Free, Pair, Policy, Ring, Slice};
 use policy_trials::Blink;
 use std::alloc::Global;
+use std::array::from_fn;
 use std::test::Fail;
 
 pub fn ticked<P: Policy>(bench: &mut Bench<'_, P>) -> Result<(u32, u8), Fail> {
@@ -38,11 +39,7 @@ pub fn refused<T: Drop>(answer: Result<T, Fault>, number: u8, place: u8) -> Resu
 }
 
 fn promises<P: Policy>(policy: &P) -> [u16; 16] {
-    let mut promises = [0; 16];
-    for (a, promise) in promises.iter_mut().enumerate() {
-        *promise = policy.promise(a as u8);
-    }
-    promises
+    from_fn(|a| policy.promise(a as u8))
 }
 
 // Compares the counts of a bench with those of the two runs, each shown by a bench of its own.

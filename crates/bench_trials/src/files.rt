@@ -11,11 +11,9 @@ pub fn graph(heap: Global, times: &[u16], lines: &[Line]) -> Result<Graph, Fail>
     let mut file = [0x01, 0x00, 0x02].to_vec(heap)?;
     file.push(u8::try_from(times.len())?)?;
     file.push(u8::try_from(lines.len())?)?;
-    let mut name = b'A';
-    for time in times {
+    for (name, time) in (b'A'..).zip(times) {
         file.extend_from_slice(&[0x02, 0x00, 0x0A, name, 0, 0, 0, 0, 0, 0, 0])?;
         file.extend_from_slice(&time.to_be_bytes())?;
-        name = name.wrapping_add(1);
     }
     for Line(source, dest, p, q, capacity, tokens) in lines {
         file.extend_from_slice(&[0x03, 0x00, 0x08, *source, *dest, *p, *q])?;

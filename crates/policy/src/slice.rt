@@ -21,7 +21,8 @@ pub struct Slice<P: Policy> {
     ghost fits: { (a : ℕ) → wide period slots ((P.Policy.view below).promise a) ≤ 65535 },
 }
 
-// The promise over a promise of `d` below.
+// The promise over a promise of `d` below. Period and slots are asked for apart, here and below: a slice has them so, and its
+// laws speak of each.
 fn widened(period: u8, slots: u8, d: u16) -> u32
     requires { (0 < slots) × (slots ≤ period) }
     ensures { result ≡ wide period slots d }

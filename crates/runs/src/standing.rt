@@ -50,7 +50,8 @@ impl Held {
         }
     }
 
-    // Strikes out the ends of the channel that its tokens and free places hinder.
+    // Strikes out the ends of the channel that its tokens and free places hinder. Ends are asked for, here and in the next two: a
+    // `Channel` is what a file states, before its ends are judged.
     fn withhold(self, channel: &Channel, go: &mut [bool; 16])
         requires { Ends 16 channel.now }
         ensures { Withheld channel.now self.tokens self.free go.old go.new }
@@ -128,8 +129,9 @@ impl Doing {
     }
 }
 
-// Loops with a number write or read an array beside the one that they go through: while a zip lends an array, no invariant
-// can name it.
+// Loops with a number write an array beside the one that they go through, or go through the one that is written: while a zip
+// lends an array to be written, no invariant can name it. The loop of `ready` writes neither, and says by its number how many
+// channels have been looked at.
 impl Standing {
     // What stands before the starts of tick 0.
     pub fn initial(graph: &Graph) -> Standing
@@ -149,7 +151,8 @@ impl Standing {
         }
     }
 
-    // Marks the actors that are idle.
+    // Marks the actors that are idle. By how many there are, as four more below, and not by the graph: what is asked of the number
+    // bounds the slice, which would otherwise have to be shown in each.
     fn idle(&self, actors: usize) -> [bool; 16]
         requires { actors ≤ 16 }
         ensures are { (a : ℕ) → a < actors → flag result a ≡ not (busy (state_of self.now) a) }
@@ -174,7 +177,7 @@ impl Standing {
         go
     }
 
-    // The marked actors take their tokens and places.
+    // The marked actors take their tokens and places. Not one with `give`, as of a channel.
     fn take(&mut self, graph: &Graph, go: &[bool; 16])
         requires { Takes (channels_in graph.now) go.now (state_of self.old) }
         ensures { Taken (length (channels_in graph.now)) (channels_in graph.now) go.now (state_of self.old) (state_of self.new) }

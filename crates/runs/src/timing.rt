@@ -9,7 +9,7 @@ pub fn times(graph: &Graph) -> [u16; 16]
 {
     let mut times = [0; 16];
     let actors = graph.actors();
-    // By number: while a zip lends the times, no invariant can name them.
+    // By number: while a zip lends the times to be written, no invariant can name them.
     for (a, actor) in actors.iter().enumerate() {
         times[a] = actor.time;
     }
