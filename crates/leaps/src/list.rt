@@ -32,7 +32,8 @@ impl MoveList {
         self.len += 1;
     }
 
-    pub(crate) fn as_slice(&self) -> &[Move]
+    // The moves that stand there.
+    pub fn as_slice(&self) -> &[Move]
         ensures { result.now ≡ moves_in self.now }
     {
         &self.moves[..self.len as usize]

@@ -43,12 +43,15 @@ fn rated(graph: &Graph) -> Rates
     ensures rate { result.rate.answer ≡ rate_in graph.now }
     ensures held { result.held.answer ≡ held_in graph.now }
 {
+    // One table for both ways: a temporary in each would have a place of its own on the stack.
+    let mut rate_rows = rows();
     let (rate, held) = match pile(graph) {
         Ok(pile) => {
-            let both = follow(graph, pile, &[], &mut [], &mut rows(), &mut rows());
+            let mut held_rows = rows();
+            let both = follow(graph, pile, &[], &mut [], &mut rate_rows, &mut held_rows);
             (both.unhindered, both.promised.map_err(Fault::from))
         }
-        Err(fault) => (unhindered_rate(graph, &mut rows()), Err(fault)),
+        Err(fault) => (unhindered_rate(graph, &mut rate_rows), Err(fault)),
     };
     Rates {
         rate: Told {

@@ -1,18 +1,18 @@
 -- What the loops of a tick come to. Assumes nothing.
-use Rattle.std.proofs.Common.{◌≡◌, ℕ, ◌+◌, ◌-◌, ◌<◌, ◌≤◌, ◌↔◌, IsTrue, inl, inr, Bool, true, false, cond, not, ltb, ◌&&◌, eqb, List, length, sym, refl, ap, ◌∙◌, ap₂, ⊎_elim, arith}
+use Rattle.std.proofs.Common.{◌≡◌, ℕ, ◌+◌, ◌-◌, ◌<◌, ◌≤◌, ◌↔◌, IsTrue, inl, inr, Bool, true, false, cond, not, ltb, ◌&&◌, eqb, List, sym, refl, ap, ◌∙◌, ap₂, ⊎_elim, arith}
 use Rattle.std.proofs.lemmas.Bool.{cases_Bool, cases_lt, true≢false}
 use Rattle.std.proofs.lemmas.Bool.Decides.{nat_tests}
-use Rattle.graph.specs.declared.graph.Graph.{Graph}
-use Rattle.graph.specs.Meaning.{actors_in, channels_in}
-use Rattle.model.specs.Net.{Net, State, when, busy, every, start, ends, finish, initial_state, tick, fallen, next, run}
+use Rattle.graph.specs.declared.channel.Channel.{Channel}
+use Rattle.model.specs.Net.{Net, State, Timed, when, busy, every, start, ends, finish, initial_state, tick, fallen, next, run}
 use Rattle.model.specs.Likeness.{Matches}
+use Rattle.model.proofs.Balance.{run_balanced, capacity_whole}
 use Rattle.model.proofs.Every.{every_from, every_true}
 use Rattle.model.proofs.Ready.{has_tokens, has_places}
+use Rattle.model.proofs.Runs.{run_few}
 use Rattle.model.proofs.Alikes.{alike_trans, start_alike, tick_matches}
-use Rattle.runs.specs.Nets.{net, at, taken}
-use Rattle.runs.specs.Loops.{flag, Bounded, Fitting, Marked, Takes, Taken, Begun, Served, Given}
+use Rattle.runs.specs.Nets.{net_of, at, taken}
+use Rattle.runs.specs.Loops.{flag, Bounded, Fitting, Roomy, Countable, Marked, Takes, Taken, Begun, Served, Given}
 use Rattle.runs.specs.Standings.{Vacant}
-use Rattle.runs.proofs.Graphs.{graph_fitting}
 
 -- the firings of a run take the ticks that fall
 pub taken_falls : (s : State) (a : ℕ) → taken s (fallen s) a ≡ fallen s a
@@ -22,25 +22,23 @@ at_most_one : (b : Bool) → when b 1 ≤ 1
 at_most_one true = omega arith
 at_most_one false = omega arith
 
-module _ (gr : Graph) where
+-- over any actors and channels that fit
+module _ (n : ℕ) (cs : List Channel) (fit : Fitting n cs) where
   abbrev g : Net
-  g = net gr
+  g = net_of n cs
 
-  abbrev fit : Fitting (length (actors_in gr)) (channels_in gr)
-  fit = graph_fitting gr
-
-  pub bounded : Bounded (channels_in gr)
+  pub bounded : Bounded cs
   bounded = (fit.few.1, λ c hc. (omega (arith, fit.few, fit.sound.source_in c hc), omega (arith, fit.few, fit.sound.dest_in c hc)))
 
   -- the ready actors start
-  module _ (s : State) (go : List Bool) (h : Marked g.channels g.actors (channels_in gr) s go) where
-    pub takes : Takes (channels_in gr) go s
+  module _ (s : State) (go : List Bool) (h : Marked g.channels g.actors cs s go) where
+    pub takes : Takes cs go s
     takes = record {
       tokens = λ c hc t. has_tokens g s c hc (sym (h.are (g.dest c) (fit.sound.dest_in c hc)) ∙ t);
       places = λ c hc t. has_places g s c hc (sym (h.are (g.source c) (fit.sound.source_in c hc)) ∙ t);
     }
 
-    module _ (times : List ℕ) (z w : State) (t : Taken g.channels (channels_in gr) go s z) (b : Begun g.actors times go z w) where
+    module _ (times : List ℕ) (z w : State) (t : Taken g.channels cs go s z) (b : Begun g.actors times go z w) where
       pub starts : Matches g w (start g (at times) s)
       starts = record {
         alike = record {
@@ -61,7 +59,7 @@ module _ (gr : Graph) where
       )
 
   -- firings end
-  module _ (left : List ℕ) (s z w : State) (done : List Bool) (f : Served g.actors left s z done) (v : Given g.channels (channels_in gr) done z w) where
+  module _ (left : List ℕ) (s z w : State) (done : List Bool) (f : Served g.actors left s z done) (v : Given g.channels cs done z w) where
     pub finish_ends : (a : ℕ) → a < g.actors → flag done a ≡ ends s (taken s (at left)) a
     finish_ends a ha = f.done_are a ha
 
@@ -114,6 +112,19 @@ module _ (gr : Graph) where
         let e = tick_matches g fit.sound (at times) (taken s (at left)) (fallen s) s s
         (record { alike = record { tokens = λ c hc. refl; free = λ c hc. refl; left = λ a ha. refl }; ended = λ a ha. refl }) falling in
         record { alike = alike_trans g _ _ _ h.alike e.alike; ended = λ a ha. h.ended a ha ∙ e.ended a ha }
+
+  -- what stands in a run from tick 0 on has room for what a tick puts there, as `step` and `next` ask
+  module _ (time : ℕ → ℕ) (pos : Timed g time) (t : ℕ) (s : State) (h : Matches g s (run g time t)) where
+    pub run_roomy : Roomy cs s
+    run_roomy c hc =
+        let whole = capacity_whole g fit.sound (run g time t) (run_balanced g fit.sound time pos t) c hc in
+        let tokens = h.alike.tokens c hc in
+        let free = h.alike.free c hc in
+        let most = fit.small c hc in
+        (omega arith, omega arith)
+
+    pub run_countable : t ≤ 10_000_000 → Countable n s
+    run_countable early a ha = omega (arith, h.ended a ha, run_few g fit.sound time pos t a ha)
 
 -- nothing is under way where every actor has no ticks left
 idle_not : (l : ℕ) → l ≡ 0 → not (ltb 0 l) ≡ true

@@ -3,4 +3,5 @@ pub mod Nets
 pub mod Standings
 pub mod Seen
 pub mod Loops
+pub mod Wirings
 pub mod Places

@@ -32,8 +32,8 @@ pub record Fitting (n : ℕ) (cs : List Channel) : Type 0 where
 abbrev pub Roomy : List Channel → State → Type 0
 Roomy cs s = (c : ℕ) → c < length cs → (s.tokens c ≤ 4096) × (s.free c ≤ 4096)
 
-abbrev pub Countable : State → Type 0
-Countable s = (a : ℕ) → s.ended a < 2 ^ 32 - 1
+abbrev pub Countable : ℕ → State → Type 0
+Countable n s = (a : ℕ) → a < n → s.ended a + 1 < 2 ^ 32
 
 abbrev pub Withheld : Channel → ℕ → ℕ → List Bool → List Bool → Type 0
 Withheld c tokens free go go' =

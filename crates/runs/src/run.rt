@@ -8,6 +8,7 @@ ghost use Rattle.runs.specs.Places.{Within};
 ghost use Rattle.runs.specs.Standings.{state_of, Vacant};
 
 use crate::standing::Standing;
+use crate::steps::{reset, step};
 use graph::Graph;
 
 // A run of a graph with a table of times: what stands in it after so many ticks.
@@ -37,8 +38,9 @@ impl<'g> Run<'g> {
         ensures tick { result.tick ≡ 0 }
         ensures after { Matches (net graph.now) (state result) (run_at (net graph.now) (at times) 0) }
     {
-        let mut standing = Standing::initial(graph);
-        standing.start_ready(graph, &times);
+        let mut standing = Standing::REST;
+        let channels = graph.channels();
+        reset(graph.actors().len(), channels, &times, &mut standing);
         Run {
             graph,
             times,
@@ -54,7 +56,10 @@ impl<'g> Run<'g> {
         ensures tick { self.new.tick ≡ 0 }
         ensures after { Matches (net self.new.graph.now) (state self.new) (run_at (net self.new.graph.now) (at self.new.times) 0) }
     {
-        *self = Run::new(self.graph, self.times);
+        let actors = self.graph.actors().len();
+        let channels = self.graph.channels();
+        reset(actors, channels, &self.times, &mut self.standing);
+        self.tick = 0;
     }
 
     // A later tick, with the new ticks left of the firings under way; marks the firings that ended.
@@ -66,8 +71,14 @@ impl<'g> Run<'g> {
         ensures done { (a : ℕ) → a < (net self.old.graph.now).actors → flag result a ≡ ends (state self.old) (taken (state self.old) (at left.now)) a }
         ensures after { Matches (net self.old.graph.now) (state self.new) (tick_state (net self.old.graph.now) (at self.old.times) (taken (state self.old) (at left.now)) (state self.old)) }
     {
-        let done = self.standing.finish(self.graph, left);
-        self.standing.start_ready(self.graph, &self.times);
+        let graph = self.graph;
+        let done = step(
+            graph.actors().len(),
+            graph.channels(),
+            &self.times,
+            left,
+            &mut self.standing,
+        );
         self.tick = self.tick.saturating_add(1);
         done
     }

@@ -1,17 +1,18 @@
 // What stands in a run, and what the parts of a tick make of it.
 ghost use Rattle.std.specs.Prelude.{◌≡◌, ℕ, ◌+◌, ◌-◌, ◌^◌, ◌<◌, ◌≤◌, true, false, cond, not, ◌&&◌, length, ◌==◌, nat_lt, ◌↔◌, IsTrue};
 ghost use Rattle.graph.specs.Channels.{Ends};
-ghost use Rattle.graph.specs.Meaning.{actors_in, channels_in};
 ghost use Rattle.model.specs.Likeness.{Matches};
 ghost use Rattle.model.specs.Net.{when, busy, start, ends, finish as finished, fallen, initial_state};
 ghost use Rattle.runs.specs.Firings.{left_of};
 ghost use Rattle.runs.specs.Loops.{flag, Roomy, Countable, Withheld, Marked, Takes, Taken, Begun, Served, Given};
-ghost use Rattle.runs.specs.Nets.{net, at, taken};
+ghost use Rattle.runs.specs.Nets.{at, taken};
 ghost use Rattle.runs.specs.Places.{Within};
 ghost use Rattle.runs.specs.Standings.{state_of, Vacant};
+ghost use Rattle.runs.specs.Wirings.{net_in};
 
 use crate::firing::{Event, Firing, ends};
-use graph::{Channel, Graph};
+use crate::wires::Wires;
+use graph::Channel;
 
 // What a channel holds.
 #[derive(Clone, Copy)]
@@ -133,14 +134,20 @@ impl Doing {
 // lends an array to be written, no invariant can name it. The loop of `ready` writes neither, and says by its number how many
 // channels have been looked at.
 impl Standing {
+    // Nothing stands anywhere.
+    pub const REST: Standing = Standing {
+        held: [Held::NOTHING; 32],
+        doing: [Doing::IDLE; 16],
+    };
+
     // What stands before the starts of tick 0.
-    pub fn initial(graph: &Graph) -> Standing
-        ensures begins { Matches (net graph.now) (state_of result) (initial_state (net graph.now)) }
+    pub(crate) fn initial(wires: &Wires<'_>) -> Standing
+        ensures begins { Matches (net_in wires.now) (state_of result) (initial_state (net_in wires.now)) }
         ensures counts { (a : ℕ) → (state_of result).ended a ≡ 0 }
-        ensures within { Within (net graph.now) (state_of result) }
-        ensures vacant { Vacant (net graph.now) (state_of result) }
+        ensures within { Within (net_in wires.now) (state_of result) }
+        ensures vacant { Vacant (net_in wires.now) (state_of result) }
     {
-        let channels = graph.channels();
+        let channels = wires.channels;
         let mut held = [Held::NOTHING; 32];
         for (c, channel) in channels.iter().enumerate() {
             held[c] = Held::initial(channel);
@@ -151,7 +158,7 @@ impl Standing {
         }
     }
 
-    // Marks the actors that are idle. By how many there are, as four more below, and not by the graph: what is asked of the number
+    // Marks the actors that are idle. By how many there are, as four more below, and not by the wires: what is asked of the number
     // bounds the slice, which would otherwise have to be shown in each.
     fn idle(&self, actors: usize) -> [bool; 16]
         requires { actors ≤ 16 }
@@ -166,11 +173,11 @@ impl Standing {
     }
 
     // Marks the actors that are ready.
-    fn ready(&self, graph: &Graph) -> [bool; 16]
-        ensures { Marked (length (channels_in graph.now)) (length (actors_in graph.now)) (channels_in graph.now) (state_of self.now) result }
+    fn ready(&self, wires: &Wires<'_>) -> [bool; 16]
+        ensures { Marked (length wires.now.channels.now) wires.now.actors wires.now.channels.now (state_of self.now) result }
     {
-        let channels = graph.channels();
-        let mut go = self.idle(graph.actors().len());
+        let channels = wires.channels;
+        let mut go = self.idle(wires.actors);
         for (c, channel) in channels.iter().enumerate() {
             self.held[c].withhold(channel, &mut go);
         }
@@ -178,11 +185,11 @@ impl Standing {
     }
 
     // The marked actors take their tokens and places. Not one with `give`, as of a channel.
-    fn take(&mut self, graph: &Graph, go: &[bool; 16])
-        requires { Takes (channels_in graph.now) go.now (state_of self.old) }
-        ensures { Taken (length (channels_in graph.now)) (channels_in graph.now) go.now (state_of self.old) (state_of self.new) }
+    fn take(&mut self, wires: &Wires<'_>, go: &[bool; 16])
+        requires { Takes wires.now.channels.now go.now (state_of self.old) }
+        ensures { Taken (length wires.now.channels.now) wires.now.channels.now go.now (state_of self.old) (state_of self.new) }
     {
-        let channels = graph.channels();
+        let channels = wires.channels;
         for (c, channel) in channels.iter().enumerate() {
             self.held[c].take(channel, go);
         }
@@ -201,21 +208,21 @@ impl Standing {
     }
 
     // Every ready actor starts once.
-    pub fn start_ready(&mut self, graph: &Graph, times: &[u16; 16])
-        ensures after { Matches (net graph.now) (state_of self.new) (start (net graph.now) (at times.now) (state_of self.old)) }
+    pub(crate) fn start_ready(&mut self, wires: &Wires<'_>, times: &[u16; 16])
+        ensures after { Matches (net_in wires.now) (state_of self.new) (start (net_in wires.now) (at times.now) (state_of self.old)) }
         ensures counts { (a : ℕ) → (state_of self.new).ended a ≡ (state_of self.old).ended a }
-        ensures within { Within (net graph.now) (state_of self.old) → Within (net graph.now) (state_of self.new) }
-        ensures vacant { Vacant (net graph.now) (state_of self.old) → Vacant (net graph.now) (state_of self.new) }
+        ensures within { Within (net_in wires.now) (state_of self.old) → Within (net_in wires.now) (state_of self.new) }
+        ensures vacant { Vacant (net_in wires.now) (state_of self.old) → Vacant (net_in wires.now) (state_of self.new) }
     {
-        let go = self.ready(graph);
-        self.take(graph, &go);
-        self.begin(graph.actors().len(), times, &go);
+        let go = self.ready(wires);
+        self.take(wires, &go);
+        self.begin(wires.actors, times, &go);
     }
 
     // Each firing under way comes to the new ticks left, and those that come to 0 are counted; marks these.
     fn serve(&mut self, actors: usize, left: &[u16; 16]) -> [bool; 16]
         requires few { actors ≤ 16 }
-        requires countable { Countable (state_of self.old) }
+        requires countable { Countable actors (state_of self.old) }
         ensures { Served actors left.now (state_of self.old) (state_of self.new) result }
     {
         let mut done = [false; 16];
@@ -226,33 +233,33 @@ impl Standing {
     }
 
     // The firings done give their tokens and places.
-    fn give(&mut self, graph: &Graph, done: &[bool; 16])
-        requires { Roomy (channels_in graph.now) (state_of self.old) }
-        ensures { Given (length (channels_in graph.now)) (channels_in graph.now) done.now (state_of self.old) (state_of self.new) }
+    fn give(&mut self, wires: &Wires<'_>, done: &[bool; 16])
+        requires { Roomy wires.now.channels.now (state_of self.old) }
+        ensures { Given (length wires.now.channels.now) wires.now.channels.now done.now (state_of self.old) (state_of self.new) }
     {
-        let channels = graph.channels();
+        let channels = wires.channels;
         for (c, channel) in channels.iter().enumerate() {
             self.held[c].give(channel, done);
         }
     }
 
     // The firings under way come to the new ticks left, and those that come to 0 end; marks these.
-    pub fn finish(&mut self, graph: &Graph, left: &[u16; 16]) -> [bool; 16]
-        requires within { Within (net graph.now) (state_of self.old) }
-        requires countable { Countable (state_of self.old) }
-        ensures done { (a : ℕ) → a < (net graph.now).actors → flag result a ≡ ends (state_of self.old) (taken (state_of self.old) (at left.now)) a }
-        ensures after { Matches (net graph.now) (state_of self.new) (finished (net graph.now) (taken (state_of self.old) (at left.now)) (state_of self.old)) }
+    pub(crate) fn finish(&mut self, wires: &Wires<'_>, left: &[u16; 16]) -> [bool; 16]
+        requires roomy { Roomy wires.now.channels.now (state_of self.old) }
+        requires countable { Countable wires.now.actors (state_of self.old) }
+        ensures done { (a : ℕ) → a < wires.now.actors → flag result a ≡ ends (state_of self.old) (taken (state_of self.old) (at left.now)) a }
+        ensures after { Matches (net_in wires.now) (state_of self.new) (finished (net_in wires.now) (taken (state_of self.old) (at left.now)) (state_of self.old)) }
         ensures counts { (a : ℕ) → (state_of self.new).ended a ≤ (state_of self.old).ended a + 1 }
-        ensures within { Within (net graph.now) (state_of self.new) }
-        ensures vacant { Vacant (net graph.now) (state_of self.old) → Vacant (net graph.now) (state_of self.new) }
+        ensures within { Within (net_in wires.now) (state_of self.old) → Within (net_in wires.now) (state_of self.new) }
+        ensures vacant { Vacant (net_in wires.now) (state_of self.old) → Vacant (net_in wires.now) (state_of self.new) }
     {
-        let done = self.serve(graph.actors().len(), left);
-        self.give(graph, &done);
+        let done = self.serve(wires.actors, left);
+        self.give(wires, &done);
         done
     }
 
     // One tick less for each firing under way.
-    pub fn one_less(&self, actors: usize) -> [u16; 16]
+    pub(crate) fn one_less(&self, actors: usize) -> [u16; 16]
         requires { actors ≤ 16 }
         ensures value { (a : ℕ) → a < actors → at result a ≡ fallen (state_of self.now) a }
     {
@@ -264,7 +271,7 @@ impl Standing {
     }
 
     // Whether nothing is under way.
-    pub fn is_still(&self, actors: usize) -> bool
+    pub(crate) fn is_still(&self, actors: usize) -> bool
         requires { actors ≤ 16 }
         ensures { IsTrue result ↔ ((a : ℕ) → a < actors → (state_of self.now).left a ≡ 0) }
     {

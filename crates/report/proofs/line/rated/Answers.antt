@@ -12,6 +12,6 @@ returns-clause-held c =
           let p = w.in-Ok.ensures in
           let both = w.follow-both in
           let k : w.map_err.result ≡ kept both.result.promised = search rules in
-          ap (λ x. x.1) w.rate-is ∙ k ∙ held_is g _ _ _ both.result.promised w.rows-in-Ok.ensures p.0 p.2 (both.ensures.promised.rated p.1).value
+          ap (λ x. x.1) w.rate-is ∙ k ∙ held_is g _ _ _ both.result.promised w.rows-held_rows.ensures p.0 p.2 (both.ensures.promised.rated p.1).value
       | in-Err w ↦ ap (λ x. x.1) w.rate-is ∙ rw w.in-Err.ensures.0 (held_refused g w.in-Err.ensures.1)
     ]

@@ -15,9 +15,9 @@ loop-c-preserved c =
     let v = c.loop-c.invariant in
     let s = state_of c.args.self.now in
     let done = c.args.done.now in
-    let cs = c.channels-channels.result.now in
+    let cs = c.args.wires.now.channels.now in
     let x = c.give.new.self in
-    let lt : i < length hs = omega (arith, (bounded c.args.graph.now).0, ap length c.channels-channels.ensures) in
+    let lt : i < length hs = omega (arith, (bounded c.args.wires.now.actors c.args.wires.now.channels.now c.args.wires.now.fitting).0) in
     record {
       left = v.left;
       ended = v.ended;
