@@ -1,12 +1,15 @@
 -- Tables after a write, and marks. Assumes nothing.
-use Rattle.std.proofs.Common.{◌≡◌, ℕ, zero, suc, replicate, ◌+◌, ◌<◌, ◌≤◌, Bool, true, false, cond, ◌&&◌, ltb, ⊎_elim, ◌≢◌, List, length, get_or, set, refl, arith, get_or-set_other, get_or-set_same, below_more}
+use Rattle.std.proofs.Common.{◌≡◌, ℕ, zero, suc, replicate, ◌+◌, ◌<◌, ◌≤◌, Bool, true, false, cond, ◌&&◌, ltb, ⊎_elim, ◌≢◌, List, length, get_or, set, refl, ap, arith, get_or-set_other, get_or-set_same, below_more}
 use Rattle.std.proofs.lemmas.Bool.{cases_lt}
 use Rattle.std.proofs.lemmas.Bool.Decides.{nat_tests}
+use Rattle.model.specs.Net.{Net}
 use Rattle.runs.specs.declared.firing.Firing.{Firing}
 use Rattle.runs.specs.declared.firing.Firing.TheVariants.{Idle, UnderWay}
 use Rattle.runs.specs.declared.firing.Event.TheVariants.{Served}
 use Rattle.runs.specs.Firings.{left_of, after}
-use Rattle.runs.specs.Standings.{none}
+use Rattle.runs.specs.declared.standing.Doing.{Doing}
+use Rattle.runs.specs.declared.standing.Held.{Held}
+use Rattle.runs.specs.Standings.{none, idle, state_of, Vacant}
 
 -- what holds of the items below i, and of the new one, holds of one more; and those from i on stay
 module _ {X : Type 0} (R : ℕ → X → Type 0) (xs : List X) (d : X) (i : ℕ) (x : X) (lt : i < length xs) where
@@ -38,8 +41,15 @@ pub stays_out : (b x z : Bool) → b ≡ false → z ≡ (b && x) → z ≡ fals
 stays_out false x z f e = e
 stays_out true x z f e = cc
 
--- a table of nothing, and what is past its end
-pub nothing : (n i : ℕ) → get_or (replicate n none) i none ≡ none
-nothing zero i = refl
-nothing (suc n) zero = refl
-nothing (suc n) (suc i) = nothing n i
+-- a table of one and the same, and what is past its end
+pub nothing : {X : Type 0} (x : X) (n i : ℕ) → get_or (replicate n x) i x ≡ x
+nothing x zero i = refl
+nothing x (suc n) zero = refl
+nothing x (suc n) (suc i) = nothing x n i
+
+-- where nothing stands anywhere
+pub rest_vacant : (n : Net) → Vacant n (state_of (record { held = replicate 32 none; doing = replicate 16 idle }))
+rest_vacant n = (
+  λ c _. (ap (λ (h : Held). h.tokens) (nothing none 32 c), ap (λ (h : Held). h.free) (nothing none 32 c)),
+  λ a _. (ap (λ (d : Doing). left_of d.firing) (nothing idle 16 a), ap (λ (d : Doing). d.ended) (nothing idle 16 a)),
+)

@@ -140,22 +140,17 @@ impl Standing {
         doing: [Doing::IDLE; 16],
     };
 
-    // What stands before the starts of tick 0.
-    pub(crate) fn initial(wires: &Wires<'_>) -> Standing
-        ensures begins { Matches (net_in wires.now) (state_of result) (initial_state (net_in wires.now)) }
-        ensures counts { (a : ℕ) → (state_of result).ended a ≡ 0 }
-        ensures within { Within (net_in wires.now) (state_of result) }
-        ensures vacant { Vacant (net_in wires.now) (state_of result) }
+    // Puts back what stands before the starts of tick 0. Past the actors and channels that there are, all stays.
+    pub(crate) fn put_back(&mut self, wires: &Wires<'_>)
+        ensures begins { Matches (net_in wires.now) (state_of self.new) (initial_state (net_in wires.now)) }
+        ensures within { Within (net_in wires.now) (state_of self.new) }
+        ensures vacant { Vacant (net_in wires.now) (state_of self.old) → Vacant (net_in wires.now) (state_of self.new) }
     {
         let channels = wires.channels;
-        let mut held = [Held::NOTHING; 32];
         for (c, channel) in channels.iter().enumerate() {
-            held[c] = Held::initial(channel);
+            self.held[c] = Held::initial(channel);
         }
-        Standing {
-            held,
-            doing: [Doing::IDLE; 16],
-        }
+        self.doing[..wires.actors].fill(Doing::IDLE);
     }
 
     // Marks the actors that are idle. By how many there are, as four more below, and not by the wires: what is asked of the number

@@ -15,12 +15,12 @@ use graph::Channel;
 pub fn reset(actors: usize, channels: &[Channel], times: &[u16; 16], standing: &mut Standing)
     requires { Fitting actors channels.now }
     ensures after { Matches (net_of actors channels.now) (state_of standing.new) (run_at (net_of actors channels.now) (at times.now) 0) }
-    ensures counts { (a : ℕ) → (state_of standing.new).ended a ≡ 0 }
+    ensures counts { Vacant (net_of actors channels.now) (state_of standing.old) → (a : ℕ) → (state_of standing.new).ended a ≡ 0 }
     ensures within { Within (net_of actors channels.now) (state_of standing.new) }
-    ensures vacant { Vacant (net_of actors channels.now) (state_of standing.new) }
+    ensures vacant { Vacant (net_of actors channels.now) (state_of standing.old) → Vacant (net_of actors channels.now) (state_of standing.new) }
 {
     let wires = Wires { actors, channels };
-    *standing = Standing::initial(&wires);
+    standing.put_back(&wires);
     standing.start_ready(&wires, times);
 }
 
