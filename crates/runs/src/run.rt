@@ -9,6 +9,7 @@ ghost use Rattle.runs.specs.Standings.{state_of, Vacant};
 
 use crate::standing::Standing;
 use crate::steps::{reset, step};
+use crate::wires::Wires;
 use graph::Graph;
 
 // A run of a graph with a table of times: what stands in it after so many ticks.
@@ -38,9 +39,9 @@ impl<'g> Run<'g> {
         ensures tick { result.tick ≡ 0 }
         ensures after { Matches (net graph.now) (state result) (run_at (net graph.now) (at times) 0) }
     {
-        let mut standing = Standing::REST;
-        let channels = graph.channels();
-        reset(graph.actors().len(), channels, &times, &mut standing);
+        let wires = Wires::of(graph);
+        let mut standing = Standing::initial(&wires);
+        standing.start_ready(&wires, &times);
         Run {
             graph,
             times,

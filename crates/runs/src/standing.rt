@@ -140,7 +140,22 @@ impl Standing {
         doing: [Doing::IDLE; 16],
     };
 
+    // What stands before the starts of tick 0.
+    pub(crate) fn initial(wires: &Wires<'_>) -> Standing
+        ensures begins { Matches (net_in wires.now) (state_of result) (initial_state (net_in wires.now)) }
+        ensures within { Within (net_in wires.now) (state_of result) }
+        ensures vacant { Vacant (net_in wires.now) (state_of result) }
+    {
+        let mut standing = Standing {
+            held: [Held::NOTHING; 32],
+            doing: [Doing::IDLE; 16],
+        };
+        standing.put_back(wires);
+        standing
+    }
+
     // Puts back what stands before the starts of tick 0. Past the actors and channels that there are, all stays.
+    #[inline(always)]
     pub(crate) fn put_back(&mut self, wires: &Wires<'_>)
         ensures begins { Matches (net_in wires.now) (state_of self.new) (initial_state (net_in wires.now)) }
         ensures within { Within (net_in wires.now) (state_of self.new) }

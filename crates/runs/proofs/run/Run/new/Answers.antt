@@ -1,14 +1,12 @@
-use Rattle.std.proofs.Common.{arith, length}
-use Rattle.runs.specs.Nets.{net_of}
-use Rattle.runs.proofs.Marks.{rest_vacant}
+use Rattle.runs.specs.Nets.{at}
+use Rattle.runs.specs.Standings.{state_of}
+use Rattle.runs.proofs.Ticks.{first}
 use Rattle.runs.proofs.run.Run.new.Goals as goal
 
-pub invariant_of-result-clause-few : goal.invariant_of-result-clause-few
-invariant_of-result-clause-few c a = omega (arith, c.reset.ensures.counts (rest_vacant (net_of (length c.actors.result.now) c.channels-channels.result.now)) a)
-
-pub invariant_of-result-clause-vacant : goal.invariant_of-result-clause-vacant
-invariant_of-result-clause-vacant c =
-    rw c.channels-channels.ensures at (rw c.actors.ensures at (c.reset.ensures.vacant (rest_vacant (net_of (length c.actors.result.now) c.channels-channels.result.now))))
-
-pub invariant_of-result-clause-within : goal.invariant_of-result-clause-within
-invariant_of-result-clause-within c = rw c.channels-channels.ensures at c.reset.ensures.within
+pub returns-clause-after : goal.returns-clause-after
+returns-clause-after c =
+    let w = c.of-wires.result in
+    rw c.of-wires.ensures.channels at (rw c.of-wires.ensures.actors at (
+      first w.actors w.channels.now w.fitting (at c.args.times) (state_of c.initial-standing.result) (state_of c.start_ready.new.self)
+      c.initial-standing.ensures.begins c.start_ready.ensures.after
+    ))
