@@ -1,6 +1,7 @@
 -- One round of a ring, as the list of its actors. Assumes nothing.
-use Rattle.std.proofs.Common.{◌≡◌, ℕ, zero, suc, ◌+◌, ◌-◌, ◌<◌, ◌≤◌, Bool, false, cond, ltb, List, [], ◌++◌, length, get_or, Some, ⊎_elim, refl, sym, ap, ◌∙◌, add-one, append-nil, arith}
+use Rattle.std.proofs.Common.{◌≡◌, ℕ, zero, suc, ◌+◌, ◌-◌, ◌<◌, ◌≤◌, Bool, false, cond, ltb, List, [], ◌++◌, length, get_or, Some, None, Option, MatchOption, ⊎_elim, refl, sym, ap, ◌∙◌, add-one, append-nil, arith}
 use Rattle.std.specs.List.{find, range_with_len}
+use Rattle.std.specs.Option.{option_or}
 use Rattle.std.proofs.lemmas.Bool.{cases_lt, lt-ltb, le-ltb, cond-true, cond-false}
 use Rattle.policy.specs.Round.{after}
 use Rattle.policy.specs.declared.ring.Ring.{Ring}
@@ -14,6 +15,10 @@ round_of n t = range_with_len (t + 1) (n - (t + 1)) ++ range_with_len 0 (t + 1)
 
 abbrev pub has : List ℕ → ℕ → Bool
 has left a = ltb 0 (get_or left a 0)
+
+pub either : {P : Type 0} (o r s : Option ℕ) → MatchOption o P (λ x. r ≡ Some x) → (P → r ≡ s) → r ≡ option_or o s
+either None r s m f = f m
+either (Some x) r s m f = m
 
 module _ (n : ℕ) (left : List ℕ) where
   -- m actors on without going round, and then the rest

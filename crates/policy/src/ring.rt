@@ -1,4 +1,5 @@
-ghost use Rattle.std.specs.Prelude.{◌≡◌, ℕ, ◌+◌, ◌-◌, ◌<◌, ◌≤◌, true, false, length, slice_index};
+ghost use Rattle.std.specs.Prelude.{◌≡◌, ℕ, ◌+◌, ◌-◌, ◌<◌, ◌≤◌, true, false, length, nat_lt, slice_index};
+ghost use Rattle.std.specs.List.{find, range_with_len};
 ghost use Rattle.policy.specs.Meaning.{View, Sound, Served, Cleared, Laid, layable};
 ghost use Rattle.policy.specs.Works.{WorksChecked, RowsMade, RowsLaid, RowsCleared, works_of, lefts_of};
 ghost use Rattle.policy.specs.Turns.{total, next, round, ringed, RingTicks};
@@ -43,6 +44,13 @@ impl Ring {
         }
     }
 
+    // The first actor from `a` up to `b` that has work left.
+    fn first(&self, a: u8, b: u8) -> Option<u8>
+        ensures { result ≡ find (λ x. nat_lt 0 (slice_index (lefts_of self.now.rows.list.items) x)) (range_with_len a (b - a)) }
+    {
+        (a..b).find(|x| self.rows.left(*x) > 0)
+    }
+
     // Who is served at the next tick.
     fn next(&self) -> Option<u8>
         ensures { result ≡ next (length self.now.rows.list.items) (lefts_of self.now.rows.list.items) self.now.turn self.now.busy }
@@ -51,16 +59,15 @@ impl Ring {
             return Some(self.turn);
         }
         let after = self.turn + 1;
-        (after..self.rows.number())
-            .chain(0..after)
-            .find(|a| self.rows.left(*a) > 0)
+        self.first(after, self.rows.number())
+            .or_else(|| self.first(0, after))
     }
 
     // The works of all actors together.
     fn total(&self) -> u16
         ensures { result ≡ total (works_of self.now.rows.list.items) (length self.now.rows.list.items) }
     {
-        self.rows.total(self.rows.number())
+        self.rows.total(0, self.rows.number())
     }
 
     // The works after the turn's actor, going round to and including another's.
@@ -68,12 +75,11 @@ impl Ring {
         requires { b < length self.now.rows.list.items }
         ensures { result ≡ round (works_of self.now.rows.list.items) (length self.now.rows.list.items) self.now.turn b }
     {
-        let passed = self.rows.total(self.turn + 1);
-        let reached = self.rows.total(b + 1);
+        let after = self.turn + 1;
         if self.turn < b {
-            reached - passed
+            self.rows.total(after, b + 1)
         } else {
-            reached + (self.total() - passed)
+            self.rows.total(after, self.rows.number()) + self.rows.total(0, b + 1)
         }
     }
 }

@@ -1,18 +1,9 @@
-use Rattle.std.proofs.Common.{◌+◌, length, arith}
+use Rattle.std.proofs.Common.{◌+◌, length, ap, arith}
 use Rattle.policy.specs.Works.{works_of}
+use Rattle.policy.specs.Turns.{total}
 use Rattle.policy.specs.Rings.{most}
 use Rattle.policy.specs.Sums.{total_mono, total_limit, sums_on, sums_back, round_sums}
 use Rattle.policy.proofs.ring.Ring.round.Goals as goal
-
-pub overflow_sub-result : goal.overflow_sub-result
-overflow_sub-result c =
-    let p = c.args.self.now in
-    omega (arith, c.total-passed.ensures, c.total-reached.ensures, total_mono (works_of p.rows.list.items) (p.turn + 1) (c.args.b + 1) (omega arith))
-
-pub overflow_sub-result-else-self-b : goal.overflow_sub-result-else-self-b
-overflow_sub-result-else-self-b c =
-    let p = c.args.self.now in
-    omega (arith, c.total-passed.ensures, c.total.ensures, total_mono (works_of p.rows.list.items) (p.turn + 1) (length p.rows.list.items) (omega (arith, p.on, c.requires)))
 
 pub overflow_add-result : goal.overflow_add-result
 overflow_add-result c =
@@ -20,10 +11,12 @@ overflow_add-result c =
     let ws = works_of p.rows.list.items in
     omega (
       arith,
-      c.total-passed.ensures,
-      c.total-reached.ensures,
-      c.total.ensures,
+      c.total-else-self-b.ensures,
+      c.total-else-self-b-2.ensures,
+      c.number.ensures,
+      ap (total ws) c.number.ensures,
       total_mono ws (c.args.b + 1) (p.turn + 1) (omega arith),
+      total_mono ws (p.turn + 1) (length p.rows.list.items) (omega (arith, p.on, c.requires)),
       total_limit ws (most p.rows) (length p.rows.list.items),
       p.rows.few,
     )
@@ -35,8 +28,7 @@ returns-then-self-b c =
     let n = length p.rows.list.items in
     omega (
       arith,
-      c.total-passed.ensures,
-      c.total-reached.ensures,
+      c.total.ensures,
       round_sums ws n p.turn c.args.b (omega (arith, p.on, c.requires)) c.requires,
       sums_on ws n p.turn c.args.b c.if-self-b.true,
     )
@@ -48,9 +40,9 @@ returns-else-self-b c =
     let n = length p.rows.list.items in
     omega (
       arith,
-      c.total-passed.ensures,
-      c.total-reached.ensures,
-      c.total.ensures,
+      c.total-else-self-b.ensures,
+      c.total-else-self-b-2.ensures,
+      ap (total ws) c.number.ensures,
       round_sums ws n p.turn c.args.b (omega (arith, p.on, c.requires)) c.requires,
       sums_back ws n p.turn c.args.b c.if-self-b.false,
     )
