@@ -1,6 +1,6 @@
--- The works of actors in a row, as a sum over their rows. Assumes nothing.
-use Rattle.std.proofs.Common.{◌≡◌, ℕ, zero, suc, ◌+◌, ◌-◌, ◌≤◌, ◌<◌, ◌^◌, List, [], ◌∷◌, length, take, drop, slice_range, get_or, sum, sym, ap, ◌∙◌, add-zero, add-suc, add-one, length-drop, arith}
-use Rattle.std.proofs.lemmas.List.{take_more, take-map, drop-map, length-map, get_or-drop}
+-- The works of the first actors together, as a sum over their rows. Assumes nothing.
+use Rattle.std.proofs.Common.{◌≡◌, ℕ, zero, suc, ◌≤◌, ◌<◌, ◌^◌, List, [], ◌∷◌, length, take, get_or, sum, sym, ap, ◌∙◌, refl, add-one, arith}
+use Rattle.std.proofs.lemmas.List.{take_more, take-map, length-map}
 use Rattle.std.proofs.lemmas.List.Sums.{sum_by-append}
 use Rattle.policy.specs.declared.rows.Row.{Row}
 use Rattle.policy.specs.declared.rows.Rows.{Rows}
@@ -9,22 +9,14 @@ use Rattle.policy.specs.Turns.{total}
 use Rattle.policy.specs.Sums.{total_limit}
 use Rattle.policy.specs.Rings.{most}
 
-sum_total : (ws : List ℕ) (a m : ℕ) → a + m ≤ length ws → sum (take m (drop a ws)) + total ws a ≡ total ws (a + m)
-sum_total ws a zero h = omega (arith, ap (total ws) (add-zero a))
-sum_total ws a (suc m) h =
-    let more = ap sum (take_more (drop a ws) m 0 (omega (arith, length-drop a ws))) ∙ sum_by-append (λ (x : ℕ). x) (take m (drop a ws)) (get_or (drop a ws) m 0 ∷ []) in
-    omega (arith, sum_total ws a m (omega arith), more, get_or-drop a ws m 0, ap (λ j. sum (take j (drop a ws))) (add-one m), ap (total ws) (add-suc a m))
+sum_total : (ws : List ℕ) (k : ℕ) → k ≤ length ws → sum (take k ws) ≡ total ws k
+sum_total ws zero h = refl
+sum_total ws (suc k) h =
+    let more = ap sum (take_more ws k 0 (omega arith)) ∙ sum_by-append (λ (x : ℕ). x) (take k ws) (get_or ws k 0 ∷ []) in
+    omega (arith, sum_total ws k (omega arith), more, ap (λ j. sum (take j ws)) (add-one k))
 
--- the rows from a up to b
-module _ (p : Rows) (a b : ℕ) (h : a ≤ b) (k : b ≤ length p.list.items) where
-  pub sum_range : sum (works_of (slice_range p.list.items a b)) ≡ total (works_of p.list.items) b - total (works_of p.list.items) a
-  sum_range =
-      let rs = p.list.items in
-      let ws = works_of rs in
-      let work : Row → ℕ = λ r. r.work in
-      let parts = ap sum (sym (ap (take (b - a)) (drop-map work a rs) ∙ take-map work (b - a) (drop a rs))) in
-      let e : a + (b - a) ≡ b = omega arith in
-      omega (arith, parts, sum_total ws a (b - a) (omega (arith, length-map rs work)), ap (total ws) e)
+pub sum_works : (rs : List Row) (k : ℕ) → k ≤ length rs → sum (works_of (take k rs)) ≡ total (works_of rs) k
+sum_works rs k h = ap sum (sym (take-map (λ (r : Row). r.work) k rs)) ∙ sum_total (works_of rs) k (omega (arith, length-map rs (λ (r : Row). r.work)))
 
-  pub total_fits : sum (works_of (slice_range p.list.items a b)) < 2 ^ 16
-  total_fits = omega (arith, sum_range, total_limit (works_of p.list.items) (most p) b, p.few)
+pub total_fits : (p : Rows) (k : ℕ) → k ≤ length p.list.items → sum (works_of (take k p.list.items)) < 2 ^ 16
+total_fits p k h = omega (arith, sum_works p.list.items k h, total_limit (works_of p.list.items) (most p) k, p.few)

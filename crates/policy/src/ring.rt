@@ -8,6 +8,7 @@ ghost use Rattle.std.proofs.Common.{rules};
 
 use crate::fault::Fault;
 use crate::meaning::Policy;
+use crate::round::after;
 use crate::rows::Rows;
 
 // One processor, which goes round the actors that have work left.
@@ -58,29 +59,33 @@ impl Ring {
         if self.busy {
             return Some(self.turn);
         }
-        let after = self.turn + 1;
-        self.first(after, self.rows.number())
-            .or_else(|| self.first(0, after))
+        let past = self.turn + 1;
+        self.first(past, self.rows.number())
+            .or_else(|| self.first(0, past))
     }
 
     // The works of all actors together.
     fn total(&self) -> u16
         ensures { result ≡ total (works_of self.now.rows.list.items) (length self.now.rows.list.items) }
     {
-        self.rows.total(0, self.rows.number())
+        self.rows.total(self.rows.number())
     }
 
     // The works after the turn's actor, going round to and including another's.
     fn round(&self, b: u8) -> u16
-        requires { b < length self.now.rows.list.items }
         ensures { result ≡ round (works_of self.now.rows.list.items) (length self.now.rows.list.items) self.now.turn b }
     {
-        let after = self.turn + 1;
-        if self.turn < b {
-            self.rows.total(after, b + 1)
-        } else {
-            self.rows.total(after, self.rows.number()) + self.rows.total(0, b + 1)
+        let n = self.rows.number();
+        let mut at = self.turn;
+        let mut sum = 0;
+        for _step in 0..n {
+            at = after(n, at);
+            sum += self.rows.work(at);
+            if at == b {
+                return sum;
+            }
         }
+        sum
     }
 }
 

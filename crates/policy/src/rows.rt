@@ -85,12 +85,12 @@ impl Rows {
         self.list.get(a as usize).map_or(0, |row| row.left)
     }
 
-    // The works of the actors from `a` up to `b` together.
-    pub(crate) fn total(&self, a: u8, b: u8) -> u16
-        requires { (a ≤ b) × (b ≤ length self.now.list.items) }
-        ensures { result ≡ total (works_of self.now.list.items) b - total (works_of self.now.list.items) a }
+    // The works of the first `k` actors together.
+    pub(crate) fn total(&self, k: u8) -> u16
+        requires { k ≤ length self.now.list.items }
+        ensures { result ≡ total (works_of self.now.list.items) k }
     {
-        total(&self.list[a as usize..b as usize])
+        total(&self.list[..k as usize])
     }
 
     // One tick for every actor.
