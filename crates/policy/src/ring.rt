@@ -75,6 +75,7 @@ impl Ring {
     fn round(&self, b: u8) -> u16
         ensures { result ≡ round (works_of self.now.rows.list.items) (length self.now.rows.list.items) self.now.turn b }
     {
+        // Step by step: sums over the rows take longer where there are one or two actors.
         let n = self.rows.number();
         let mut at = self.turn;
         let mut sum = 0;

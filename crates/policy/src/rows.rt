@@ -130,6 +130,7 @@ impl Rows {
     pub(crate) fn clear(&mut self)
         ensures { RowsCleared self.old.list.items self.new.list.items }
     {
+        // Actor by actor: over the slice, as a tick goes, a clear takes longer.
         let mut a = 0;
         while let Some(row) = self.list.get_mut(a) {
             row.left = 0;
