@@ -1,11 +1,12 @@
 -- One round of a ring, as the list of its actors. Assumes nothing.
-use Rattle.std.proofs.Common.{◌≡◌, ℕ, zero, suc, ◌+◌, ◌-◌, ◌<◌, ◌≤◌, Bool, false, cond, ltb, List, [], ◌++◌, length, get_or, Some, ⊎_elim, refl, sym, ap, ◌∙◌, add-one, append-nil, arith}
+use Rattle.std.proofs.Common.{◌≡◌, ℕ, zero, suc, ◌+◌, ◌-◌, ◌<◌, ◌≤◌, Bool, false, cond, eqb, ltb, List, [], ◌++◌, length, get_or, Some, None, Option, MatchOption, ⊎_elim, refl, sym, ap, ◌∙◌, add-one, append-nil, arith}
 use Rattle.std.specs.List.{find, range_with_len}
-use Rattle.std.proofs.lemmas.Bool.{cases_lt, lt-ltb, le-ltb, cond-true, cond-false}
+use Rattle.std.specs.Option.{option_or}
+use Rattle.std.proofs.lemmas.Bool.{cases_lt, lt-ltb, le-ltb, eq-eqb, ne_eqb, cond-true, cond-false}
 use Rattle.policy.specs.Round.{after}
 use Rattle.policy.specs.declared.ring.Ring.{Ring}
 use Rattle.policy.specs.Works.{lefts_of}
-use Rattle.policy.specs.Turns.{waiting, next}
+use Rattle.policy.specs.Turns.{waiting, next, works_to}
 use Rattle.policy.specs.Rings.{under, past}
 
 -- those after t, and then those up to t
@@ -14,6 +15,10 @@ round_of n t = range_with_len (t + 1) (n - (t + 1)) ++ range_with_len 0 (t + 1)
 
 abbrev pub has : List ℕ → ℕ → Bool
 has left a = ltb 0 (get_or left a 0)
+
+pub either : {P : Type 0} (o r s : Option ℕ) → MatchOption o P (λ x. r ≡ Some x) → (P → r ≡ s) → r ≡ option_or o s
+either None r s m f = f m
+either (Some x) r s m f = m
 
 module _ (n : ℕ) (left : List ℕ) where
   -- m actors on without going round, and then the rest
@@ -56,3 +61,17 @@ next_round p f =
     ap (λ k. waiting k left p.turn k) none
     ∙ sym (ap (λ k. find (has left) (round_of k p.turn)) none ∙ ap (λ t. find (has left) (round_of 0 t)) first ∙ cond-false _ _ _ (le-ltb 0 (get_or left 0 0) idle)))
     (cases_lt 0 n)
+
+-- of n steps, i are done
+one_more : (n i : ℕ) → i < n → n - i ≡ suc (n - (i + 1))
+one_more n i h = let e : n - i ≡ (n - (i + 1)) + 1 = omega arith in e ∙ add-one (n - (i + 1))
+
+module _ (ws : List ℕ) (n a b i : ℕ) (h : i < n) (x : ℕ) (e : x ≡ after n a) where
+  summed : works_to ws n a b (n - i) ≡ get_or ws x 0 + cond (eqb x b) 0 (works_to ws n x b (n - (i + 1)))
+  summed = ap (works_to ws n a b) (one_more n i h) ∙ ap (λ y. get_or ws y 0 + cond (eqb y b) 0 (works_to ws n y b (n - (i + 1)))) (sym e)
+
+  pub works_to_last : x ≡ b → works_to ws n a b (n - i) ≡ get_or ws x 0
+  works_to_last k = omega (arith, summed, cond-true (eqb x b) 0 (works_to ws n x b (n - (i + 1))) (eq-eqb x b k))
+
+  pub works_to_passed : (x ≡ b → ⊥) → works_to ws n a b (n - i) ≡ get_or ws x 0 + works_to ws n x b (n - (i + 1))
+  works_to_passed o = omega (arith, summed, cond-false (eqb x b) 0 (works_to ws n x b (n - (i + 1))) (ne_eqb x b o))

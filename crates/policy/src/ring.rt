@@ -1,4 +1,5 @@
-ghost use Rattle.std.specs.Prelude.{◌≡◌, ℕ, ◌+◌, ◌-◌, ◌<◌, ◌≤◌, true, false, length, slice_index};
+ghost use Rattle.std.specs.Prelude.{◌≡◌, ℕ, ◌+◌, ◌-◌, ◌<◌, ◌≤◌, true, false, length, nat_lt, slice_index};
+ghost use Rattle.std.specs.List.{find, range_with_len};
 ghost use Rattle.policy.specs.Meaning.{View, Sound, Served, Cleared, Laid, layable};
 ghost use Rattle.policy.specs.Works.{WorksChecked, RowsMade, RowsLaid, RowsCleared, works_of, lefts_of};
 ghost use Rattle.policy.specs.Turns.{total, next, round, ringed, RingTicks};
@@ -7,6 +8,7 @@ ghost use Rattle.std.proofs.Common.{rules};
 
 use crate::fault::Fault;
 use crate::meaning::Policy;
+use crate::round::after;
 use crate::rows::Rows;
 
 // One processor, which goes round the actors that have work left.
@@ -43,6 +45,13 @@ impl Ring {
         }
     }
 
+    // The first actor from `a` up to `b` that has work left.
+    fn first(&self, a: u8, b: u8) -> Option<u8>
+        ensures { result ≡ find (λ x. nat_lt 0 (slice_index (lefts_of self.now.rows.list.items) x)) (range_with_len a (b - a)) }
+    {
+        (a..b).find(|x| self.rows.left(*x) > 0)
+    }
+
     // Who is served at the next tick.
     fn next(&self) -> Option<u8>
         ensures { result ≡ next (length self.now.rows.list.items) (lefts_of self.now.rows.list.items) self.now.turn self.now.busy }
@@ -50,10 +59,9 @@ impl Ring {
         if self.busy {
             return Some(self.turn);
         }
-        let after = self.turn + 1;
-        (after..self.rows.number())
-            .chain(0..after)
-            .find(|a| self.rows.left(*a) > 0)
+        let past = self.turn + 1;
+        self.first(past, self.rows.number())
+            .or_else(|| self.first(0, past))
     }
 
     // The works of all actors together.
@@ -65,16 +73,20 @@ impl Ring {
 
     // The works after the turn's actor, going round to and including another's.
     fn round(&self, b: u8) -> u16
-        requires { b < length self.now.rows.list.items }
         ensures { result ≡ round (works_of self.now.rows.list.items) (length self.now.rows.list.items) self.now.turn b }
     {
-        let passed = self.rows.total(self.turn + 1);
-        let reached = self.rows.total(b + 1);
-        if self.turn < b {
-            reached - passed
-        } else {
-            reached + (self.total() - passed)
+        // Step by step: sums over the rows take longer where there are one or two actors.
+        let n = self.rows.number();
+        let mut at = self.turn;
+        let mut sum = 0;
+        for _step in 0..n {
+            at = after(n, at);
+            sum += self.rows.work(at);
+            if at == b {
+                return sum;
+            }
         }
+        sum
     }
 }
 
