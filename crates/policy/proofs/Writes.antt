@@ -1,10 +1,10 @@
 -- What the writes of rows leave. Assumes nothing.
-use Rattle.std.proofs.Common.{◌≡◌, ℕ, ◌+◌, ◌-◌, ◌<◌, ◌≤◌, ◌≢◌, List, ◌++◌, map, take, drop, length, get_or, sym, ap, ◌∙◌, subst, append-nil, arith}
+use Rattle.std.proofs.Common.{◌≡◌, ℕ, ◌+◌, ◌-◌, ◌<◌, ◌≤◌, ◌≢◌, List, ◌++◌, map, take, drop, length, get_or, sym, ap, ◌∙◌, subst, arith}
 use Rattle.std.specs.List.{All, refill}
 use Rattle.std.proofs.Math.ListN.{set, get_or-map}
 use Rattle.std.proofs.Math.Seq.{map-set_same}
 use Rattle.std.proofs.lemmas.Simd.{map-map}
-use Rattle.std.proofs.lemmas.List.{length-map, length-set, get_or-set_same, get_or-set_other, get_or_default, take_all, drop_all}
+use Rattle.std.proofs.lemmas.List.{length-map, length-set, get_or-set_same, get_or-set_other, get_or_default}
 use Rattle.std.proofs.lemmas.List.Edits.{map_over_more}
 use Rattle.std.proofs.lemmas.List.Elements.{All-map}
 use Rattle.arrayvec.proofs.ArrayVecLemmas.{items-with_items}
@@ -40,9 +40,6 @@ pub over_row : (f : Row → Row) (xs ys : List Row) (i : ℕ) → i < length xs 
     → set ys i (f (get_or ys i none)) ≡ map f (take (i + 1) xs) ++ drop (i + 1) xs
 over_row f xs ys i h l e = map_over_more f xs ys i (get_or ys i none) h e (get_or_default ys i none _ l)
 
-pub over_all : (f : Row → Row) (xs ys : List Row) (i : ℕ) → length xs ≤ i → ys ≡ map f (take i xs) ++ drop i xs → ys ≡ map f xs
-over_all f xs ys i h e = e ∙ ap (λ zs. map f (take i xs) ++ zs) (drop_all i xs h) ∙ append-nil (map f (take i xs)) ∙ ap (map f) (take_all i xs h)
-
 pub map_worn : (rs : List Row) → FreeTicks rs (map worn rs)
 map_worn rs = record {
   number = length-map rs worn;
@@ -70,6 +67,9 @@ module _ (rs : List Row) (a : ℕ) (y : Row) where
 
 pub fit_worn : (r : Row) → Fit r → Fit (worn r)
 fit_worn r f = record { least = f.least; most = f.most; under = omega (arith, f.under) }
+
+pub fit_emptied : (r : Row) → Fit r → Fit (emptied r)
+fit_emptied r f = record { least = f.least; most = f.most; under = omega arith }
 
 -- each row is written through the slice
 module _ (p : Rows) (f : Row → Row) (keeps : (r : Row) → Fit r → Fit (f r)) (now ys : List Row) (v : now ≡ p.list.items) (e : ys ≡ map f now) where

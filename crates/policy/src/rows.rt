@@ -1,6 +1,6 @@
 ghost use Rattle.std.specs.Prelude.{◌≡◌, ℕ, ◌+◌, ◌-◌, ◌^◌, ◌<◌, ◌≤◌, true, false, ◌&&◌, map, sum, length, ◌==◌, ◌≢◌, nat_lt, slice_index};
 ghost use Rattle.std.specs.List.{All};
-ghost use Rattle.policy.specs.Works.{WorksChecked, RowsMade, RowsLaid, RowsCleared, FreeTicks, Fit, worn, works_of, lefts_of};
+ghost use Rattle.policy.specs.Works.{WorksChecked, RowsMade, RowsLaid, RowsCleared, FreeTicks, Fit, worn, emptied, works_of, lefts_of};
 ghost use Rattle.policy.specs.Turns.{total};
 
 use crate::fault::Fault;
@@ -29,12 +29,21 @@ fn total(rows: &[Row]) -> u16
     rows.iter().map(|row| row.work).sum()
 }
 
-// One tick for each.
+// One tick for each. Not one loop with the next: a closure that changes a row would need both their clauses.
 fn serve(rows: &mut [Row])
     ensures { rows.new ≡ map worn rows.old }
 {
     for row in rows.iter_mut() {
         row.left = row.left.saturating_sub(1);
+    }
+}
+
+// Takes away what is left of each.
+fn clear(rows: &mut [Row])
+    ensures { rows.new ≡ map emptied rows.old }
+{
+    for row in rows.iter_mut() {
+        row.left = 0;
     }
 }
 
@@ -130,11 +139,6 @@ impl Rows {
     pub(crate) fn clear(&mut self)
         ensures { RowsCleared self.old.list.items self.new.list.items }
     {
-        // Actor by actor: over the slice, as a tick goes, a clear takes longer.
-        let mut a = 0;
-        while let Some(row) = self.list.get_mut(a) {
-            row.left = 0;
-            a += 1;
-        }
+        clear(self.list.as_mut_slice());
     }
 }
