@@ -7,6 +7,6 @@ pub returns-clause-after : goal.returns-clause-after
 returns-clause-after c =
     let w = c.of-wires.result in
     rw c.of-wires.ensures.channels at (rw c.of-wires.ensures.actors at (
-      first w.actors w.channels.now w.fitting (at c.args.times) (state_of c.initial-standing.result) (state_of c.start_ready.new.self)
-      c.initial-standing.ensures.begins c.start_ready.ensures.after
+    first w.actors w.channels.now w.fitting (at c.args.times) (state_of c.initial-standing.result) (state_of c.start_ready.new.self)
+    c.initial-standing.ensures.begins c.start_ready.ensures.after
     ))
